@@ -1,0 +1,4 @@
+pub mod Charges
+pub mod Margin
+pub mod Netting
+pub mod Premium

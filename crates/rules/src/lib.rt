@@ -1,0 +1,85 @@
+// The exchange's arithmetic: the margin and the premium of one contract, and netting.
+pub mod amount;
+
+use amount::{amount, rates_of};
+use terms::class::Class;
+use terms::count::{Contracts, Position};
+use terms::measure::{Measure, unit_allowed};
+use terms::refusal::Refusal;
+use terms::right::Right;
+ghost use mathlib.Core.Path.{_≡_};
+ghost use Prim.Native.Nat.{min};
+ghost use Rattle.rules.specs.Charges.{marginCharge, marginAllowed, premiumCharge, premiumAllowed};
+ghost use Rattle.rules.specs.Netting.{netted};
+
+// What one contract costs, or why that is not said.
+pub enum Charge {
+    Fen(u64),
+    Refused(Refusal),
+}
+
+pub fn margin(
+    class: Class,
+    right: Right,
+    settlement: u32,
+    close: u32,
+    strike: u32,
+    unit: u32,
+) -> Charge
+    ensures { λ r. ⌜ r ≡ marginCharge class right settlement close strike unit ⌝ }
+{
+    if margin_allowed(settlement, close, strike, unit) {
+        let amount = amount(rates_of(class, right), right, settlement, close, strike);
+        Charge::Fen((unit as u64 * amount + 5_000) / 10_000)
+    } else {
+        Charge::Refused(Refusal::OutOfRange)
+    }
+}
+
+pub fn premium(price: u32, unit: u32) -> Charge
+    ensures { λ r. ⌜ r ≡ premiumCharge price unit ⌝ }
+{
+    if premium_allowed(price, unit) {
+        Charge::Fen(price as u64 * unit as u64 / 100)
+    } else {
+        Charge::Refused(Refusal::OutOfRange)
+    }
+}
+
+// Long against short first, then what is left of long against covered.
+pub fn net(position: Position) -> Position
+    ensures { λ r. ⌜ r ≡ netted position ⌝ }
+{
+    let long = position.long.0;
+    let short = position.short.0;
+    let covered = position.covered.0;
+    let from_short = lesser(long, short);
+    let left = long - from_short;
+    let from_covered = lesser(left, covered);
+    Position {
+        long: Contracts(left - from_covered),
+        short: Contracts(short - from_short),
+        covered: Contracts(covered - from_covered),
+    }
+}
+
+fn margin_allowed(settlement: u32, close: u32, strike: u32, unit: u32) -> bool
+    ensures { λ r. ⌜ r ≡ marginAllowed settlement close strike unit ⌝ }
+{
+    Measure::Settlement.allows(settlement as u64)
+        & Measure::Price.allows(close as u64)
+        & Measure::Price.allows(strike as u64)
+        & unit_allowed(unit as u64)
+}
+
+fn premium_allowed(price: u32, unit: u32) -> bool
+    ensures { λ r. ⌜ r ≡ premiumAllowed price unit ⌝ }
+{
+    Measure::Price.allows(price as u64) & unit_allowed(unit as u64)
+}
+
+fn lesser(a: u32, b: u32) -> u32
+    ensures { λ r. ⌜ r ≡ min a b ⌝ }
+{
+    if a < b { a } else { b }
+}

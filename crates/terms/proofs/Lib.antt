@@ -1,0 +1,4 @@
+-- Facts about the words that the layers above lean on.
+pub mod Codes
+pub mod Ranges
+pub mod Refusals

@@ -1,0 +1,39 @@
+-- The reasons have distinct numbers, from 1 to 18: the list of all reasons in the paper's order has each at its number's place.
+use mathlib.Core.Path.{_≡_, refl, sym, ap, _∙_}
+use mathlib.Core.List.{List, [], _∷_}
+use Prim.Native.Nat.{ℕ, _-_}
+use lib.ListN.{getD}
+use Rattle.terms.specs.Refusals.{numberOf}
+use Rattle.terms.specs.declared.refusal.Refusal.{Refusal}
+use Rattle.terms.specs.declared.refusal.Refusal.the-variants.{CutShort, UnknownKind, Misshapen, OutOfRange, OutOfPlace, StaleNumber, NoSuchOrder, OrdersFull, PositionTooSmall, RightsPassed, TotalPassed, DailyPassed, SpareTooFew, AvailableTooLow, CeilingPassed, FillBarred, BufferTooShort, CashBelowZero}
+
+abbrev pub reasons : List Refusal
+reasons =
+    CutShort ∷ UnknownKind ∷ Misshapen ∷ OutOfRange ∷ OutOfPlace ∷ StaleNumber ∷ NoSuchOrder ∷ OrdersFull ∷ PositionTooSmall
+    ∷ RightsPassed ∷ TotalPassed ∷ DailyPassed ∷ SpareTooFew ∷ AvailableTooLow ∷ CeilingPassed ∷ FillBarred ∷ BufferTooShort ∷ CashBelowZero ∷ []
+
+abbrev reason : ℕ → Refusal
+reason n = getD reasons (n - 1) CutShort
+
+pub placed : (why : Refusal) → reason (numberOf why) ≡ why
+placed CutShort = refl
+placed UnknownKind = refl
+placed Misshapen = refl
+placed OutOfRange = refl
+placed OutOfPlace = refl
+placed StaleNumber = refl
+placed NoSuchOrder = refl
+placed OrdersFull = refl
+placed PositionTooSmall = refl
+placed RightsPassed = refl
+placed TotalPassed = refl
+placed DailyPassed = refl
+placed SpareTooFew = refl
+placed AvailableTooLow = refl
+placed CeilingPassed = refl
+placed FillBarred = refl
+placed BufferTooShort = refl
+placed CashBelowZero = refl
+
+pub distinct : (why other : Refusal) → numberOf why ≡ numberOf other → why ≡ other
+distinct why other e = sym (placed why) ∙ ap reason e ∙ placed other

@@ -1,0 +1,5 @@
+pub mod Codes
+pub mod Counts
+pub mod Kinds
+pub mod Ranges
+pub mod Refusals
