@@ -10,15 +10,15 @@ use Rattle.rules.specs.declared.Charge.the-variants.{Fen, Refused}
 use Rattle.rules.specs.Margin.{ratesOf, marginOf}
 use Rattle.rules.specs.Premium.{premiumOf}
 
-abbrev pub marginAllowed : ℕ → ℕ → ℕ → ℕ → Bool
+unfoldable pub marginAllowed : ℕ → ℕ → ℕ → ℕ → Bool
 marginAllowed S P K U = (S ∈ rangeOf Settlement) && (P ∈ rangeOf Price) && (K ∈ rangeOf Price) && unitAllowed U
 
-abbrev pub marginCharge : Class → Right → ℕ → ℕ → ℕ → ℕ → Charge
+unfoldable pub marginCharge : Class → Right → ℕ → ℕ → ℕ → ℕ → Charge
 marginCharge class right S P K U =
     cond (marginAllowed S P K U) (Fen (marginOf (ratesOf class right) right S P K U)) (Refused OutOfRange)
 
-abbrev pub premiumAllowed : ℕ → ℕ → Bool
+unfoldable pub premiumAllowed : ℕ → ℕ → Bool
 premiumAllowed price U = (price ∈ rangeOf Price) && unitAllowed U
 
-abbrev pub premiumCharge : ℕ → ℕ → Charge
+unfoldable pub premiumCharge : ℕ → ℕ → Charge
 premiumCharge price U = cond (premiumAllowed price U) (Fen (premiumOf price U)) (Refused OutOfRange)

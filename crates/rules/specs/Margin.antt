@@ -8,26 +8,24 @@ use Rattle.terms.specs.declared.right.Right.the-variants.{Call, Put}
 use Rattle.rules.specs.declared.amount.Rates.{Rates}
 
 infix 60 _less_butAtLeast_
-
-abbrev pub ratesOf : Class → Right → Rates
+unfoldable pub ratesOf : Class → Right → Rates
 ratesOf Stock Call = record { r = 21; f = 10 }
 ratesOf Stock Put = record { r = 19; f = 10 }
-ratesOf Fund Call = record { r = 12; f = 7 }
-ratesOf Fund Put = record { r = 12; f = 7 }
+ratesOf Fund right = record { r = 12; f = 7 }
 
-abbrev pub _less_butAtLeast_ : ℕ → ℕ → ℕ → ℕ
+unfoldable pub _less_butAtLeast_ : ℕ → ℕ → ℕ → ℕ
 a less b butAtLeast floor = cond (leb (floor + b) a) (a - b) floor
 
-abbrev pub outOfTheMoney : Right → ℕ → ℕ → ℕ
+unfoldable pub outOfTheMoney : Right → ℕ → ℕ → ℕ
 outOfTheMoney Call P K = K less P butAtLeast 0
 outOfTheMoney Put P K = P less K butAtLeast 0
 
-abbrev pub amountOf : Rates → Right → ℕ → ℕ → ℕ → ℕ
+unfoldable pub amountOf : Rates → Right → ℕ → ℕ → ℕ → ℕ
 amountOf q Call S P K = 100 * S + (q .r * P less 100 * outOfTheMoney Call P K butAtLeast q .f * P)
 amountOf q Put S P K = min (100 * S + (q .r * P less 100 * outOfTheMoney Put P K butAtLeast q .f * K)) (100 * K)
 
-abbrev pub halvesUp : ℕ → ℕ → ℕ
+unfoldable pub halvesUp : ℕ → ℕ → ℕ
 halvesUp x d = (2 * x + d) / (2 * d)
 
-abbrev pub marginOf : Rates → Right → ℕ → ℕ → ℕ → ℕ → ℕ
+unfoldable pub marginOf : Rates → Right → ℕ → ℕ → ℕ → ℕ → ℕ
 marginOf q right S P K U = halvesUp (U * amountOf q right S P K) 10_000

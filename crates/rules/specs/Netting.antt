@@ -1,13 +1,13 @@
 use Prim.Native.Nat.{ℕ, _-_, min}
 use Rattle.terms.specs.declared.count.Position.{Position}
 
-abbrev pub againstShort : Position → ℕ
+unfoldable pub againstShort : Position → ℕ
 againstShort p = min (p .long .0) (p .short .0)
 
-abbrev pub againstCovered : Position → ℕ
+unfoldable pub againstCovered : Position → ℕ
 againstCovered p = min (p .long .0 - againstShort p) (p .covered .0)
 
-abbrev pub netted : Position → Position
+unfoldable pub netted : Position → Position
 netted p =
     record {
       long = record { 0 = p .long .0 - againstShort p - againstCovered p };

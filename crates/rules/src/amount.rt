@@ -2,6 +2,7 @@
 use terms::class::Class;
 use terms::right::Right;
 ghost use mathlib.Core.Path.{_≡_};
+ghost use Prim.Native.Nat.{_*_, min};
 ghost use Rattle.rules.specs.Margin.{ratesOf, outOfTheMoney, amountOf, _less_butAtLeast_};
 
 // The percentages r and f.
@@ -22,21 +23,27 @@ pub fn rates_of(class: Class, right: Right) -> Rates
     }
 }
 
-// One law for every r and f.
+// A, by one law for every r and f.
 pub fn amount(rates: Rates, right: Right, settlement: u32, close: u32, strike: u32) -> u64
     ensures { λ a. ⌜ a ≡ amountOf rates right settlement close strike ⌝ }
 {
     let base = 100 * (settlement as u64);
-    let percent = rates.r as u64 * close as u64;
+    let percent = percent_of(rates.r, close);
     let off = 100 * out_of_the_money(right, close as u64, strike as u64);
     match right {
-        Right::Call => base + less(percent, off, rates.f as u64 * close as u64),
-        Right::Put => {
-            let uncapped = base + less(percent, off, rates.f as u64 * strike as u64);
-            let cap = 100 * (strike as u64);
-            if uncapped < cap { uncapped } else { cap }
-        }
+        Right::Call => base + less(percent, off, percent_of(rates.f, close)),
+        Right::Put => lesser(
+            base + less(percent, off, percent_of(rates.f, strike)),
+            100 * (strike as u64),
+        ),
     }
+}
+
+// A percentage of a price, times 100.
+fn percent_of(rate: u8, price: u32) -> u64
+    ensures { λ a. ⌜ a ≡ rate * price ⌝ }
+{
+    rate as u64 * price as u64
 }
 
 fn out_of_the_money(right: Right, close: u64, strike: u64) -> u64
@@ -57,4 +64,10 @@ fn less(a: u64, b: u64, floor: u64) -> u64
     } else {
         floor
     }
+}
+
+fn lesser(a: u64, b: u64) -> u64
+    ensures { λ r. ⌜ r ≡ min a b ⌝ }
+{
+    if a < b { a } else { b }
 }

@@ -1,10 +1,13 @@
 // The exchange's arithmetic: the margin and the premium of one contract, and netting.
 pub mod amount;
 
-use amount::{amount, rates_of};
+use amount::amount;
+use amount::rates_of;
 use terms::class::Class;
-use terms::count::{Contracts, Position};
-use terms::measure::{Measure, unit_allowed};
+use terms::count::Contracts;
+use terms::count::Position;
+use terms::measure::Measure;
+use terms::measure::unit_allowed;
 use terms::refusal::Refusal;
 use terms::right::Right;
 ghost use mathlib.Core.Path.{_≡_};

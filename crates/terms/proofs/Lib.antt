@@ -1,4 +1,5 @@
 -- Facts about the words that the layers above lean on.
 pub mod Codes
+pub mod Product
 pub mod Ranges
 pub mod Refusals

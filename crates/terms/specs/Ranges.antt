@@ -6,7 +6,6 @@ use Rattle.terms.specs.declared.measure.Measure.the-variants.{Underlying
 
 infix 20 _to_
 infix 15 _∈_
-
 pub record Range : Type 0 where
   pub least : ℕ
   pub most : ℕ

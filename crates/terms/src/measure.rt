@@ -2,7 +2,9 @@ ghost use mathlib.Core.Path.{_≡_};
 ghost use Rattle.terms.specs.Ranges.{rangeOf, unitAllowed, _∈_};
 
 pub const UNDERLYINGS: usize = 8;
+
 pub const CONTRACTS: usize = 64;
+
 pub const PLACES: usize = 32;
 
 // What a number measures, and so between which ends it lies.

@@ -1,25 +1,24 @@
+-- `premium` meets its contract: the test decides between the two cases of the definition, and the product of two numbers of 32 bits fits 64.
+use mathlib.Core.Path.{_∙_, sym}
+use Prim.Native.Nat.{_^_}
+use native.Mathlib.Nat.{le-pred-of-lt}
 use borrow.Author.Needs.{needs}
+use Rattle.terms.proofs.Product.{product-fits}
+use Rattle.rules.specs.Charges.{premiumCharge}
+use Rattle.rules.specs.Premium.{premiumOf}
 use Rattle.rules.proofs.premium.Statement.{statement}
 use Rattle.rules.proofs.premium.Tie as tie
-use Rattle.rules.proofs.premium.Reads as reads
-use Rattle.rules.proofs.premium.Lts as lts
-use Rattle.rules.proofs.premium_allowed.Reads as premium-allowed-reads
 
--- src/lib.rt:42:8
-premium-allowed-requires : tie.Need-premium-allowed-requires
-premium-allowed-requires c κs = search needs
+product : tie.Need-mul-t7
+product c = product-fits _ _ (le-pred-of-lt {m = 2 ^ 32} (search needs)) (le-pred-of-lt {m = 2 ^ 32} (search needs)) tt
 
--- src/lib.rt:43:21
-mul-t7 : tie.Need-mul-t7
-mul-t7 c = ?h
-
--- src/lib.rt:39:1
 returns : tie.Need-returns
-returns c = ?h
+unfolding premiumCharge premiumOf
+returns c = simp (sym (c .before .premium-allowed .ensures) ∙ c .if1 .taken)
 
--- src/lib.rt:39:1
-returns-2 : tie.Need-returns-2
-returns-2 c = ?h
+refused : tie.Need-returns-2
+unfolding premiumCharge
+refused c = simp (sym (c .before .premium-allowed .ensures) ∙ c .if1 .left)
 
 pub premium-spec : {M : Type 1} → statement M
-premium-spec = tie.close (tie.spec premium-allowed-requires mul-t7 returns returns-2)
+premium-spec = tie.close (tie.spec (λ c κs. search needs) product returns refused)

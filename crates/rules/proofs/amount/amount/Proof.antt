@@ -1,107 +1,88 @@
+-- `amount` meets its contract: each arm puts together what its calls ensure, as the definition does for its right. No sum wraps: a percentage of 8 bits of a price of 32 is below 2 ^ 40, and so is whatever `less` makes of two of them but for a bit.
+use mathlib.Core.Path.{_≡_}
+use Prim.Native.Nat.{ℕ, _+_, _*_, _^_, _<_, min}
+use native.Mathlib.Nat.{le-pred-of-lt}
+use native.Mathlib.Omega.{arith}
 use borrow.Author.Needs.{needs}
+use Rattle.terms.specs.declared.right.Right.{Right}
+use Rattle.terms.specs.declared.right.Right.the-variants.{Call, Put}
+use Rattle.terms.proofs.Product.{product-below}
+use Rattle.rules.specs.Margin.{outOfTheMoney, amountOf, _less_butAtLeast_}
+use Rattle.rules.specs.declared.amount.Rates.{Rates}
+use Rattle.rules.proofs.Bounds.{out-bounded}
+use Rattle.rules.proofs.Less.{bounded}
 use Rattle.rules.proofs.amount.amount.Statement.{statement}
 use Rattle.rules.proofs.amount.amount.Tie as tie
-use Rattle.rules.proofs.amount.amount.Reads as reads
-use Rattle.rules.proofs.amount.amount.Lts as lts
-use Rattle.rules.proofs.amount.less.Reads as less-reads
-use Rattle.rules.proofs.amount.out_of_the_money.Reads as out-of-the-money-reads
 
--- src/amount.rt:29:16
-mul-base : tie.Need-mul-base
-mul-base c = search needs
+percentage : (rate price : ℕ) → rate < 2 ^ 8 → price < 2 ^ 32 → rate * price < 2 ^ 40
+percentage rate price h k = product-below (2 ^ 40) rate price (le-pred-of-lt h) (le-pred-of-lt k) tt
 
--- src/amount.rt:30:19
-cast-percent : tie.Need-cast-percent
-cast-percent c = search needs
+-- what the calls before the arms part ensure, and then what those of each arm do
+module _ (q : Rates) (right : Right) (S P K percent out : ℕ) (ep : percent ≡ q .r * P) (eo : out ≡ outOfTheMoney right P K) where
+  called : (floor sum : ℕ) → right ≡ Call → floor ≡ q .f * P → sum ≡ (percent less 100 * out butAtLeast floor) → 100 * S + sum ≡ amountOf q right S P K
+  unfolding amountOf
+  called floor sum er ef es = cc
 
--- src/amount.rt:30:19
-mul-percent : tie.Need-mul-percent
-mul-percent c = ?h
+  put : (floor sum least : ℕ) → right ≡ Put → floor ≡ q .f * K → sum ≡ (percent less 100 * out butAtLeast floor) → least ≡ min (100 * S + sum) (100 * K) → least ≡ amountOf q right S P K
+  unfolding amountOf
+  put floor sum least er ef es el = cc
 
--- src/amount.rt:31:21
-out-of-the-money-requires : tie.Need-out-of-the-money-requires
-out-of-the-money-requires c κs = search needs
-
--- src/amount.rt:31:15
 mul-off : tie.Need-mul-off
-mul-off c = ?h
+mul-off c =
+    let a = c .before .before .args in
+    omega (arith, out-bounded (a .right) (a .close) (a .strike))
 
--- src/amount.rt:33:50
-enum-told : tie.Need-enum-told
-enum-told c = search needs
-
--- src/amount.rt:33:50
-cast-less : tie.Need-cast-less
-cast-less c = search needs
-
--- src/amount.rt:33:50
-mul-less : tie.Need-mul-less
-mul-less c = ?h
-
--- src/amount.rt:33:31
-less-requires : tie.Need-less-requires
-less-requires c κs = search needs
-
--- src/amount.rt:33:24
 add-result : tie.Need-add-result
-add-result c = ?h
+add-result c =
+    let off = c .before .before .before .before in
+    let a = off .before .before .args in
+    omega (
+      arith,
+      percentage (a .rates .r) (a .close) (search needs) (search needs),
+      percentage (a .rates .f) (a .close) (search needs) (search needs),
+      bounded (off .before .percent-of .result) (100 * (off .out-of-the-money .result)) (c .before .percent-of2 .result),
+    )
 
--- src/amount.rt:35:54
-enum-told-2 : tie.Need-enum-told-2
-enum-told-2 c = search needs
+add-lesser : tie.Need-add-lesser
+add-lesser c =
+    let off = c .before .before .before .before in
+    let a = off .before .before .args in
+    omega (
+      arith,
+      percentage (a .rates .r) (a .close) (search needs) (search needs),
+      percentage (a .rates .f) (a .strike) (search needs) (search needs),
+      bounded (off .before .percent-of .result) (100 * (off .out-of-the-money .result)) (c .before .percent-of3 .result),
+    )
 
--- src/amount.rt:35:54
-cast-less-2 : tie.Need-cast-less-2
-cast-less-2 c = search needs
-
--- src/amount.rt:35:54
-mul-less-2 : tie.Need-mul-less-2
-mul-less-2 c = ?h
-
--- src/amount.rt:35:35
-less-requires-2 : tie.Need-less-requires-2
-less-requires-2 c κs = search needs
-
--- src/amount.rt:35:28
-add-uncapped : tie.Need-add-uncapped
-add-uncapped c = ?h
-
--- src/amount.rt:36:23
-mul-cap : tie.Need-mul-cap
-mul-cap c = search needs
-
--- src/amount.rt:26:1
 returns : tie.Need-returns
-returns c = ?h
+returns c =
+    let off = c .before .before .before .before in
+    called _ _ _ _ _ _ _ (off .before .percent-of .ensures) (off .out-of-the-money .ensures) _ _
+    (c .before .before .enum-told .given .1) (c .before .percent-of2 .ensures) (c .less .ensures)
 
--- src/amount.rt:26:1
 returns-2 : tie.Need-returns-2
-returns-2 c = ?h
-
--- src/amount.rt:26:1
-returns-3 : tie.Need-returns-3
-returns-3 c = ?h
+returns-2 c =
+    let off = c .before .before .before .before .before in
+    put _ _ _ _ _ _ _ (off .before .percent-of .ensures) (off .out-of-the-money .ensures) _ _ _
+    (c .before .before .before .enum-told2 .given .1) (c .before .before .percent-of3 .ensures) (c .before .less2 .ensures) (c .lesser .ensures)
 
 pub amount-spec : {M : Type 1} → statement M
 amount-spec =
     tie.close
     (tie.spec
-    mul-base
-    cast-percent
-    mul-percent
-    out-of-the-money-requires
+    (λ c. search needs)
+    (λ c κs. search needs)
+    (λ c κs. search needs)
     mul-off
-    enum-told
-    cast-less
-    mul-less
-    less-requires
+    (λ c. search needs)
+    (λ c κs. search needs)
+    (λ c κs. search needs)
     add-result
-    enum-told-2
-    cast-less-2
-    mul-less-2
-    less-requires-2
-    add-uncapped
-    mul-cap
+    (λ c. search needs)
+    (λ c κs. search needs)
+    (λ c κs. search needs)
+    add-lesser
+    (λ c. search needs)
+    (λ c κs. search needs)
     returns
-    returns-2
-    returns-3)
+    returns-2)

@@ -1,19 +1,18 @@
+-- `less` meets its contract: the difference is answered just where it reaches the floor.
+use mathlib.Core.Path.{sym}
+use native.Mathlib.Omega.{arith}
+use Rattle.rules.proofs.Less.{reached, unreached}
 use Rattle.rules.proofs.amount.less.Statement.{statement}
 use Rattle.rules.proofs.amount.less.Tie as tie
-use Rattle.rules.proofs.amount.less.Reads as reads
-use Rattle.rules.proofs.amount.less.Lts as lts
 
--- src/amount.rt:52:1
-returns : tie.Need-returns
-returns c = ?h
+difference : tie.Need-returns
+difference c = sym (reached _ _ _ (omega arith))
 
--- src/amount.rt:52:1
-returns-2 : tie.Need-returns-2
-returns-2 c = ?h
+floor : tie.Need-returns-2
+floor c = sym (unreached _ _ _ (omega arith))
 
--- src/amount.rt:52:1
-returns-3 : tie.Need-returns-3
-returns-3 c = ?h
+below-zero : tie.Need-returns-3
+below-zero c = sym (unreached _ _ _ (omega arith))
 
 pub less-spec : {M : Type 1} → statement M
-less-spec = tie.close (tie.spec returns returns-2 returns-3)
+less-spec = tie.close (tie.spec difference floor below-zero)

@@ -1,34 +1,17 @@
+-- `out_of_the_money` meets its contract: each arm asks `less` for what the definition says of its right.
 use borrow.Author.Needs.{needs}
+use Rattle.rules.specs.Margin.{outOfTheMoney}
 use Rattle.rules.proofs.amount.out_of_the_money.Statement.{statement}
 use Rattle.rules.proofs.amount.out_of_the_money.Tie as tie
-use Rattle.rules.proofs.amount.out_of_the_money.Reads as reads
-use Rattle.rules.proofs.amount.out_of_the_money.Lts as lts
-use Rattle.rules.proofs.amount.less.Reads as less-reads
 
--- src/amount.rt:46:24
-enum-told : tie.Need-enum-told
-enum-told c = search needs
+call : tie.Need-returns
+unfolding outOfTheMoney
+call c = rw (c .before .enum-told .given .1) (c .less .ensures)
 
--- src/amount.rt:46:24
-less-requires : tie.Need-less-requires
-less-requires c κs = search needs
-
--- src/amount.rt:47:23
-enum-told-2 : tie.Need-enum-told-2
-enum-told-2 c = search needs
-
--- src/amount.rt:47:23
-less-requires-2 : tie.Need-less-requires-2
-less-requires-2 c κs = search needs
-
--- src/amount.rt:42:1
-returns : tie.Need-returns
-returns c = ?h
-
--- src/amount.rt:42:1
-returns-2 : tie.Need-returns-2
-returns-2 c = ?h
+put : tie.Need-returns-2
+unfolding outOfTheMoney
+put c = rw (c .before .enum-told2 .given .1) (c .less2 .ensures)
 
 pub out-of-the-money-spec : {M : Type 1} → statement M
 out-of-the-money-spec =
-    tie.close (tie.spec enum-told less-requires enum-told-2 less-requires-2 returns returns-2)
+    tie.close (tie.spec (λ c. search needs) (λ c κs. search needs) (λ c. search needs) (λ c κs. search needs) call put)

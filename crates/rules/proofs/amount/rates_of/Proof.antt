@@ -1,37 +1,22 @@
+-- `rates_of` meets its contract: each arm answers the rates that the definition gives for its class and right.
+use mathlib.Core.Path.{refl, sym, ap₂}
 use borrow.Author.Needs.{needs}
+use Rattle.rules.specs.Margin.{ratesOf}
 use Rattle.rules.proofs.amount.rates_of.Statement.{statement}
 use Rattle.rules.proofs.amount.rates_of.Tie as tie
-use Rattle.rules.proofs.amount.rates_of.Reads as reads
-use Rattle.rules.proofs.amount.rates_of.Lts as lts
 
--- src/amount.rt:17:25
-enum-told : tie.Need-enum-told
-enum-told c = search needs
+stock-call : tie.Need-returns
+unfolding ratesOf
+stock-call c = sym (ap₂ ratesOf (c .before .before .enum-told .given .1) (c .enum-told2 .given .1))
 
--- src/amount.rt:18:28
-enum-told-2 : tie.Need-enum-told-2
-enum-told-2 c = search needs
+stock-put : tie.Need-returns-2
+unfolding ratesOf
+stock-put c = sym (ap₂ ratesOf (c .before .before .enum-told .given .1) (c .enum-told3 .given .1))
 
--- src/amount.rt:19:27
-enum-told-3 : tie.Need-enum-told-3
-enum-told-3 c = search needs
-
--- src/amount.rt:21:24
-enum-told-4 : tie.Need-enum-told-4
-enum-told-4 c = search needs
-
--- src/amount.rt:13:1
-returns : tie.Need-returns
-returns c = ?h
-
--- src/amount.rt:13:1
-returns-2 : tie.Need-returns-2
-returns-2 c = ?h
-
--- src/amount.rt:13:1
-returns-3 : tie.Need-returns-3
-returns-3 c = ?h
+fund : tie.Need-returns-3
+unfolding ratesOf
+fund c = sym (ap₂ ratesOf (c .enum-told4 .given .1) refl)
 
 pub rates-of-spec : {M : Type 1} → statement M
 rates-of-spec =
-    tie.close (tie.spec enum-told enum-told-2 enum-told-3 enum-told-4 returns returns-2 returns-3)
+    tie.close (tie.spec (λ c. search needs) (λ c. search needs) (λ c. search needs) (λ c. search needs) stock-call stock-put fund)

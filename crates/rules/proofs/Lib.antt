@@ -1,0 +1,3 @@
+-- Laws of the arithmetic that the proofs below and the layers above lean on.
+pub mod Less
+pub mod Bounds
