@@ -2,7 +2,7 @@
 use terms::class::Class;
 use terms::right::Right;
 ghost use mathlib.Core.Path.{_≡_};
-ghost use Prim.Native.Nat.{_*_, min};
+ghost use Prim.Native.Nat.{_*_};
 ghost use Rattle.rules.specs.Margin.{ratesOf, outOfTheMoney, amountOf, _less_butAtLeast_};
 
 // The percentages r and f.
@@ -32,10 +32,11 @@ pub fn amount(rates: Rates, right: Right, settlement: u32, close: u32, strike: u
     let off = 100 * out_of_the_money(right, close as u64, strike as u64);
     match right {
         Right::Call => base + less(percent, off, percent_of(rates.f, close)),
-        Right::Put => lesser(
-            base + less(percent, off, percent_of(rates.f, strike)),
-            100 * (strike as u64),
-        ),
+        Right::Put => {
+            let uncapped = base + less(percent, off, percent_of(rates.f, strike));
+            let cap = 100 * (strike as u64);
+            if uncapped < cap { uncapped } else { cap }
+        }
     }
 }
 
@@ -64,10 +65,4 @@ fn less(a: u64, b: u64, floor: u64) -> u64
     } else {
         floor
     }
-}
-
-fn lesser(a: u64, b: u64) -> u64
-    ensures { λ r. ⌜ r ≡ min a b ⌝ }
-{
-    if a < b { a } else { b }
 }

@@ -12,7 +12,7 @@ use terms::refusal::Refusal;
 use terms::right::Right;
 ghost use mathlib.Core.Path.{_≡_};
 ghost use Prim.Native.Nat.{min};
-ghost use Rattle.rules.specs.Charges.{marginCharge, marginAllowed, premiumCharge, premiumAllowed};
+ghost use Rattle.rules.specs.Charges.{marginCharge, premiumCharge};
 ghost use Rattle.rules.specs.Netting.{netted};
 
 // What one contract costs, or why that is not said.
@@ -31,7 +31,11 @@ pub fn margin(
 ) -> Charge
     ensures { λ r. ⌜ r ≡ marginCharge class right settlement close strike unit ⌝ }
 {
-    if margin_allowed(settlement, close, strike, unit) {
+    if Measure::Settlement.allows(settlement as u64)
+        & Measure::Price.allows(close as u64)
+        & Measure::Price.allows(strike as u64)
+        & unit_allowed(unit as u64)
+    {
         let amount = amount(rates_of(class, right), right, settlement, close, strike);
         Charge::Fen((unit as u64 * amount + 5_000) / 10_000)
     } else {
@@ -42,7 +46,7 @@ pub fn margin(
 pub fn premium(price: u32, unit: u32) -> Charge
     ensures { λ r. ⌜ r ≡ premiumCharge price unit ⌝ }
 {
-    if premium_allowed(price, unit) {
+    if Measure::Price.allows(price as u64) & unit_allowed(unit as u64) {
         Charge::Fen(price as u64 * unit as u64 / 100)
     } else {
         Charge::Refused(Refusal::OutOfRange)
@@ -56,29 +60,14 @@ pub fn net(position: Position) -> Position
     let long = position.long.0;
     let short = position.short.0;
     let covered = position.covered.0;
-    let from_short = lesser(long, short);
-    let left = long - from_short;
-    let from_covered = lesser(left, covered);
+    let off_short = lesser(long, short);
+    let left = long - off_short;
+    let off_covered = lesser(left, covered);
     Position {
-        long: Contracts(left - from_covered),
-        short: Contracts(short - from_short),
-        covered: Contracts(covered - from_covered),
+        long: Contracts(left - off_covered),
+        short: Contracts(short - off_short),
+        covered: Contracts(covered - off_covered),
     }
-}
-
-fn margin_allowed(settlement: u32, close: u32, strike: u32, unit: u32) -> bool
-    ensures { λ r. ⌜ r ≡ marginAllowed settlement close strike unit ⌝ }
-{
-    Measure::Settlement.allows(settlement as u64)
-        & Measure::Price.allows(close as u64)
-        & Measure::Price.allows(strike as u64)
-        & unit_allowed(unit as u64)
-}
-
-fn premium_allowed(price: u32, unit: u32) -> bool
-    ensures { λ r. ⌜ r ≡ premiumAllowed price unit ⌝ }
-{
-    Measure::Price.allows(price as u64) & unit_allowed(unit as u64)
 }
 
 fn lesser(a: u32, b: u32) -> u32

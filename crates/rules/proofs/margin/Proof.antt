@@ -1,10 +1,9 @@
--- `margin` meets its contract: the test decides between the two cases of the definition, and the quotient with 5,000 added is the one rounded halves up. Nothing wraps, since the figures passed the test.
+-- `margin` meets its contract: the four tests decide between the two cases of the definition, and the quotient with 5,000 added is the one rounded halves up. Nothing wraps, since the figures passed the tests.
 use mathlib.Core.Path.{_≡_, _∙_, sym, ap}
-use mathlib.Core.Bool.{Bool, true}
+use mathlib.Core.Bool.{true, _&&_}
 use Prim.Native.Nat.{ℕ, _+_, _*_, _/_, _≤_}
 use native.Mathlib.Nat.{mul-le-mul}
 use native.Mathlib.Omega.{arith}
-use borrow.Author.Needs.{needs}
 use Rattle.terms.specs.declared.class.Class.{Class}
 use Rattle.terms.specs.declared.right.Right.{Right}
 use Rattle.rules.specs.Charges.{marginAllowed, marginCharge}
@@ -15,7 +14,7 @@ use Rattle.rules.proofs.Bounds.{figures, amount-in-range}
 use Rattle.rules.proofs.margin.Statement.{statement}
 use Rattle.rules.proofs.margin.Tie as tie
 
--- what the calls ensure, where the test passed
+-- what the calls ensure, where the tests passed
 module _ (class : Class) (right : Right) (S P K U : ℕ) (passed : marginAllowed S P K U ≡ true) (q : Rates) (A : ℕ) (eq : q ≡ ratesOf class right) (ea : A ≡ amountOf q right S P K) where
   amount : A ≡ amountOf (ratesOf class right) right S P K
   amount = ea ∙ ap (λ (rates : Rates). amountOf rates right S P K) eq
@@ -29,22 +28,28 @@ module _ (class : Class) (right : Right) (S P K U : ℕ) (passed : marginAllowed
       let rounded : (U * A + 5_000) / 10_000 ≡ marginOf (ratesOf class right) right S P K U = rw (← amount) (omega arith) in
       simp passed (ap Fen rounded)
 
-passed : (c : tie.After-amount) → marginAllowed (c .before .before .before .before .args .settlement) (c .before .before .before .before .args .close) (c .before .before .before .before .args .strike) (c .before .before .before .before .args .unit) ≡ true
-passed c = sym (c .before .before .before .margin-allowed .ensures) ∙ c .before .before .if1 .taken
+tested : (c : tie.After-unit-allowed) → marginAllowed (c .before .before .before .before .args .settlement) (c .before .before .before .before .args .close) (c .before .before .before .before .args .strike) (c .before .before .before .before .args .unit) ≡ (c .before .before .before .allows .result && c .before .before .allows2 .result && c .before .allows3 .result && c .unit-allowed .result)
+unfolding marginAllowed
+tested c = rw (c .before .before .before .allows .ensures, c .before .before .allows2 .ensures, c .before .allows3 .ensures, c .unit-allowed .ensures)
 
-mul-t12 : tie.Need-mul-t12
-mul-t12 c = omega (arith, small _ _ _ _ _ _ (passed c) _ _ (c .before .rates-of .ensures) (c .amount .ensures))
+mul-t25 : tie.Need-mul-t25
+mul-t25 c =
+    let test = c .before .before in
+    omega (arith, small _ _ _ _ _ _ (tested (test .before) ∙ test .if1 .taken) _ _ (c .before .rates-of .ensures) (c .amount .ensures))
 
-add-t13 : tie.Need-add-t13
-add-t13 c = omega (arith, small _ _ _ _ _ _ (passed c) _ _ (c .before .rates-of .ensures) (c .amount .ensures))
+add-t26 : tie.Need-add-t26
+add-t26 c =
+    let test = c .before .before in
+    omega (arith, small _ _ _ _ _ _ (tested (test .before) ∙ test .if1 .taken) _ _ (c .before .rates-of .ensures) (c .amount .ensures))
 
 returns : tie.Need-returns
-returns c = answered _ _ _ _ _ _ (passed c) _ _ (c .before .rates-of .ensures) (c .amount .ensures)
+returns c =
+    let test = c .before .before in
+    answered _ _ _ _ _ _ (tested (test .before) ∙ test .if1 .taken) _ _ (c .before .rates-of .ensures) (c .amount .ensures)
 
 refused : tie.Need-returns-2
 unfolding marginCharge
-refused c = simp (sym (c .before .margin-allowed .ensures) ∙ c .if1 .left)
+refused c = simp (tested (c .before) ∙ c .if1 .left)
 
 pub margin-spec : {M : Type 1} → statement M
-margin-spec =
-    tie.close (tie.spec (λ c κs. search needs) (λ c κs. search needs) (λ c κs. search needs) mul-t12 add-t13 returns refused)
+margin-spec = tie.close (tie.spec (λ c κs. tt) (λ c κs. tt) (λ c κs. tt) (λ c κs. tt) (λ c κs. tt) (λ c κs. tt) mul-t25 add-t26 returns refused)

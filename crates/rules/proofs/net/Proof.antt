@@ -6,9 +6,9 @@ use Rattle.rules.proofs.net.Tie as tie
 
 returns : tie.Need-returns
 unfolding netted againstShort againstCovered
-returns c = cc
+returns c = rw (c .lesser2 .ensures, c .before .lesser .ensures)
 
 pub net-spec : {M : Type 1} → statement M
 net-spec =
     tie.close
-    (tie.spec (λ c κs. search needs) (λ c. search needs) (λ c κs. search needs) (λ c. search needs) (λ c. search needs) (λ c. search needs) returns)
+    (tie.spec (λ c κs. tt) (λ c. search needs) (λ c κs. tt) (λ c. search needs) (λ c. search needs) (λ c. search needs) returns)

@@ -1,24 +1,29 @@
--- `premium` meets its contract: the test decides between the two cases of the definition, and the product of two numbers of 32 bits fits 64.
-use mathlib.Core.Path.{_∙_, sym}
+-- `premium` meets its contract: the two tests decide between the two cases of the definition, and the product of two numbers of 32 bits fits 64.
+use mathlib.Core.Path.{_≡_, _∙_}
+use mathlib.Core.Bool.{_&&_}
 use Prim.Native.Nat.{_^_}
 use native.Mathlib.Nat.{le-pred-of-lt}
 use borrow.Author.Needs.{needs}
 use Rattle.terms.proofs.Product.{product-fits}
-use Rattle.rules.specs.Charges.{premiumCharge}
+use Rattle.rules.specs.Charges.{premiumAllowed, premiumCharge}
 use Rattle.rules.specs.Premium.{premiumOf}
 use Rattle.rules.proofs.premium.Statement.{statement}
 use Rattle.rules.proofs.premium.Tie as tie
 
-product : tie.Need-mul-t7
+tested : (c : tie.After-unit-allowed) → premiumAllowed (c .before .before .args .price) (c .before .before .args .unit) ≡ (c .before .allows .result && c .unit-allowed .result)
+unfolding premiumAllowed
+tested c = rw (c .before .allows .ensures, c .unit-allowed .ensures)
+
+product : tie.Need-mul-t12
 product c = product-fits _ _ (le-pred-of-lt {m = 2 ^ 32} (search needs)) (le-pred-of-lt {m = 2 ^ 32} (search needs)) tt
 
 returns : tie.Need-returns
 unfolding premiumCharge premiumOf
-returns c = simp (sym (c .before .premium-allowed .ensures) ∙ c .if1 .taken)
+returns c = simp (tested (c .before) ∙ c .if1 .taken)
 
 refused : tie.Need-returns-2
 unfolding premiumCharge
-refused c = simp (sym (c .before .premium-allowed .ensures) ∙ c .if1 .left)
+refused c = simp (tested (c .before) ∙ c .if1 .left)
 
 pub premium-spec : {M : Type 1} → statement M
-premium-spec = tie.close (tie.spec (λ c κs. search needs) product returns refused)
+premium-spec = tie.close (tie.spec (λ c κs. tt) (λ c κs. tt) product returns refused)

@@ -23,9 +23,9 @@ module _ (q : Rates) (right : Right) (S P K percent out : ℕ) (ep : percent ≡
   unfolding amountOf
   called floor sum er ef es = cc
 
-  put : (floor sum least : ℕ) → right ≡ Put → floor ≡ q .f * K → sum ≡ (percent less 100 * out butAtLeast floor) → least ≡ min (100 * S + sum) (100 * K) → least ≡ amountOf q right S P K
+  put : (floor sum : ℕ) → right ≡ Put → floor ≡ q .f * K → sum ≡ (percent less 100 * out butAtLeast floor) → amountOf q right S P K ≡ min (100 * S + sum) (100 * K)
   unfolding amountOf
-  put floor sum least er ef es el = cc
+  put floor sum er ef es = cc
 
 mul-off : tie.Need-mul-off
 mul-off c =
@@ -43,8 +43,8 @@ add-result c =
       bounded (off .before .percent-of .result) (100 * (off .out-of-the-money .result)) (c .before .percent-of2 .result),
     )
 
-add-lesser : tie.Need-add-lesser
-add-lesser c =
+add-uncapped : tie.Need-add-uncapped
+add-uncapped c =
     let off = c .before .before .before .before in
     let a = off .before .before .args in
     omega (
@@ -60,29 +60,36 @@ returns c =
     called _ _ _ _ _ _ _ (off .before .percent-of .ensures) (off .out-of-the-money .ensures) _ _
     (c .before .before .enum-told .given .1) (c .before .percent-of2 .ensures) (c .less .ensures)
 
-returns-2 : tie.Need-returns-2
-returns-2 c =
-    let off = c .before .before .before .before .before in
-    put _ _ _ _ _ _ _ (off .before .percent-of .ensures) (off .out-of-the-money .ensures) _ _ _
-    (c .before .before .before .enum-told2 .given .1) (c .before .before .percent-of3 .ensures) (c .before .less2 .ensures) (c .lesser .ensures)
+-- what the cap is held against
+capped : (c : tie.After-less2) → amountOf (c .before .before .before .before .before .before .args .rates) (c .before .before .before .before .before .before .args .right) (c .before .before .before .before .before .before .args .settlement) (c .before .before .before .before .before .before .args .close) (c .before .before .before .before .before .before .args .strike) ≡ min (100 * (c .before .before .before .before .before .before .args .settlement) + c .less2 .result) (100 * (c .before .before .before .before .before .before .args .strike))
+capped c =
+    let off = c .before .before .before .before in
+    put _ _ _ _ _ _ _ (off .before .percent-of .ensures) (off .out-of-the-money .ensures) _ _
+    (c .before .before .enum-told2 .given .1) (c .before .percent-of3 .ensures) (c .less2 .ensures)
+
+uncapped : tie.Need-returns-2
+uncapped c = omega (arith, capped (c .before))
+
+cap : tie.Need-returns-3
+cap c = omega (arith, capped (c .before))
 
 pub amount-spec : {M : Type 1} → statement M
 amount-spec =
     tie.close
     (tie.spec
     (λ c. search needs)
-    (λ c κs. search needs)
-    (λ c κs. search needs)
+    (λ c κs. tt)
+    (λ c κs. tt)
     mul-off
     (λ c. search needs)
-    (λ c κs. search needs)
-    (λ c κs. search needs)
+    (λ c κs. tt)
+    (λ c κs. tt)
     add-result
     (λ c. search needs)
-    (λ c κs. search needs)
-    (λ c κs. search needs)
-    add-lesser
+    (λ c κs. tt)
+    (λ c κs. tt)
+    add-uncapped
     (λ c. search needs)
-    (λ c κs. search needs)
     returns
-    returns-2)
+    uncapped
+    cap)

@@ -14,4 +14,4 @@ put c = rw (c .before .enum-told2 .given .1) (c .less2 .ensures)
 
 pub out-of-the-money-spec : {M : Type 1} → statement M
 out-of-the-money-spec =
-    tie.close (tie.spec (λ c. search needs) (λ c κs. search needs) (λ c. search needs) (λ c κs. search needs) call put)
+    tie.close (tie.spec (λ c. search needs) (λ c κs. tt) (λ c. search needs) (λ c κs. tt) call put)
