@@ -4,7 +4,8 @@ use mathlib.Core.Bool.{Bool, true, false, _&&_}
 use Prim.Native.Nat.{ℕ, _≤_, _%_}
 use borrow.Author.Tests.{leb-true, eqb-true}
 use lib.Dec.{leb, eqb}
-use Rattle.terms.specs.Ranges.{Range, _to_, _∈_, unitAllowed}
+use Rattle.terms.specs.declared.measure.Range.{Range}
+use Rattle.terms.specs.Ranges.{_to_, _∈_, unitAllowed}
 
 pub left : (a b : Bool) → (a && b) ≡ true → a ≡ true
 left true b h = refl
@@ -15,10 +16,10 @@ right true b h = h
 right false true h = refl
 right false false h = h
 
-pub inside : (x : ℕ) (range : Range) → (x ∈ range) ≡ true → (range .least ≤ x) × (x ≤ range .most)
+pub inside : (x : ℕ) (range : Range) → (x ∈ range) ≡ true → (range .0 ≤ x) × (x ≤ range .1)
 inside x range h =
-    let from = leb (range .least) x in
-    let till = leb x (range .most) in
+    let from = leb (range .0) x in
+    let till = leb x (range .1) in
     (leb-true _ _ (left from till h), leb-true _ _ (right from till h))
 
 pub unit-inside : (unit : ℕ) → unitAllowed unit ≡ true → (100 ≤ unit) × (unit ≤ 100_000) × (unit % 100 ≡ 0)

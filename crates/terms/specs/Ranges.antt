@@ -1,20 +1,17 @@
 use Prim.Native.Nat.{ℕ, _%_}
 use mathlib.Core.Bool.{Bool, true, false, _&&_}
 use lib.Dec.{leb, eqb}
+use Rattle.terms.specs.declared.measure.Range.{Range}
 use Rattle.terms.specs.declared.measure.Measure.{Measure}
 use Rattle.terms.specs.declared.measure.Measure.the-variants.{Underlyings, Contracts, Resting, Price, Settlement, Quantity, Limit, Transfer, OpeningCash, UnitsAtOnce, Money, LockedUnits}
 
 infix 20 _to_
 infix 15 _∈_
-pub record Range : Type 0 where
-  pub least : ℕ
-  pub most : ℕ
-
 abbrev pub _to_ : ℕ → ℕ → Range
-a to b = record { least = a; most = b }
+a to b = record { 0 = a; 1 = b }
 
 abbrev pub _∈_ : ℕ → Range → Bool
-x ∈ range = leb (range .least) x && leb x (range .most)
+x ∈ range = leb (range .0) x && leb x (range .1)
 
 abbrev pub rangeOf : Measure → Range
 rangeOf Underlyings = 1 to 8

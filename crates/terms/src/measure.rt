@@ -23,49 +23,34 @@ pub enum Measure {
     LockedUnits,
 }
 
-impl Measure {
-    pub fn least(self) -> u64
-        ensures { λ r. ⌜ r ≡ rangeOf self .least ⌝ }
-    {
-        match self {
-            Measure::Underlyings => 1,
-            Measure::Contracts => 1,
-            Measure::Resting => 0,
-            Measure::Price => 1,
-            Measure::Settlement => 0,
-            Measure::Quantity => 1,
-            Measure::Limit => 0,
-            Measure::Transfer => 1,
-            Measure::OpeningCash => 0,
-            Measure::UnitsAtOnce => 1,
-            Measure::Money => 0,
-            Measure::LockedUnits => 0,
-        }
-    }
+// From the first number to the second, both counted.
+pub struct Range(pub u64, pub u64);
 
-    pub fn most(self) -> u64
-        ensures { λ r. ⌜ r ≡ rangeOf self .most ⌝ }
+impl Measure {
+    pub fn range(self) -> Range
+        ensures { λ r. ⌜ r ≡ rangeOf self ⌝ }
     {
         match self {
-            Measure::Underlyings => UNDERLYINGS as u64,
-            Measure::Contracts => CONTRACTS as u64,
-            Measure::Resting => PLACES as u64,
-            Measure::Price => 10_000_000,
-            Measure::Settlement => 10_000_000,
-            Measure::Quantity => 100,
-            Measure::Limit => 10_000,
-            Measure::Transfer => 10_000_000_000_000,
-            Measure::OpeningCash => 1_000_000_000_000_000,
-            Measure::UnitsAtOnce => 1_000_000_000,
-            Measure::Money => 1_000_000_000_000_000,
-            Measure::LockedUnits => 2_000_000_000,
+            Measure::Underlyings => Range(1, UNDERLYINGS as u64),
+            Measure::Contracts => Range(1, CONTRACTS as u64),
+            Measure::Resting => Range(0, PLACES as u64),
+            Measure::Price => Range(1, 10_000_000),
+            Measure::Settlement => Range(0, 10_000_000),
+            Measure::Quantity => Range(1, 100),
+            Measure::Limit => Range(0, 10_000),
+            Measure::Transfer => Range(1, 10_000_000_000_000),
+            Measure::OpeningCash => Range(0, 1_000_000_000_000_000),
+            Measure::UnitsAtOnce => Range(1, 1_000_000_000),
+            Measure::Money => Range(0, 1_000_000_000_000_000),
+            Measure::LockedUnits => Range(0, 2_000_000_000),
         }
     }
 
     pub fn allows(self, x: u64) -> bool
         ensures { λ r. ⌜ r ≡ (x ∈ rangeOf self) ⌝ }
     {
-        (self.least() <= x) & (x <= self.most())
+        let range = self.range();
+        (range.0 <= x) & (x <= range.1)
     }
 }
 
