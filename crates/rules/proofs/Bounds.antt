@@ -1,8 +1,8 @@
 -- Bounds of one margin, over r and f: what `less` answers is at most its difference and its floor together, and each of these is a percentage of a price.
-use mathlib.Core.Path.{_≡_, refl}
+use mathlib.Core.Path.{_≡_, ap, _∙_}
 use mathlib.Core.Bool.{true, _&&_}
-use Prim.Native.Nat.{ℕ, _+_, _*_, _/_, _%_, _≤_, _<_}
-use native.Mathlib.Nat.{mul-le-mul, mul-le-mul-left}
+use Prim.Native.Nat.{ℕ, _+_, _*_, _/_, _%_, _≤_, _<_, min}
+use native.Mathlib.Nat.{mul-assoc, mul-left-comm, mul-le-mul, mul-le-mul-left, min-le-right}
 use native.Mathlib.Omega.{arith}
 use lib.Dec.{lit≤}
 use Rattle.terms.specs.Ranges.{rangeOf, unitAllowed, _∈_}
@@ -13,7 +13,7 @@ use Rattle.terms.specs.declared.right.Right.{Right}
 use Rattle.terms.specs.declared.right.Right.the-variants.{Call, Put}
 use Rattle.terms.proofs.Ranges.{left, right, inside, unit-inside}
 use Rattle.rules.specs.Charges.{marginAllowed}
-use Rattle.rules.specs.Margin.{ratesOf, outOfTheMoney, amountOf, marginOf, halvesUp}
+use Rattle.rules.specs.Margin.{_less_butAtLeast_, ratesOf, outOfTheMoney, amountOf, marginOf, halvesUp}
 use Rattle.rules.specs.declared.amount.Rates.{Rates}
 use Rattle.rules.proofs.Less.{bounded}
 
@@ -71,3 +71,13 @@ module _ (class : Class) (t : Right) (S P K U : ℕ) (h : marginAllowed S P K U 
   pub margin-below : marginOf (ratesOf class t) t S P K U < 20_000_000_000
   unfolding marginOf halvesUp
   margin-below = omega (arith, mul-le-mul (figures S P K U h .unit) amount-in-range)
+
+-- over any r and f, a put's margin never passes U x K / 100, which is a whole number: A is at most 100K, and U is a multiple of 100
+pub put-capped : (q : Rates) (S P K U : ℕ) → U % 100 ≡ 0 → marginOf q Put S P K U ≤ U * K / 100
+unfolding amountOf marginOf halvesUp
+put-capped q S P K U h =
+    let uncapped = 100 * S + (q .r * P less 100 * outOfTheMoney Put P K butAtLeast q .f * K) in
+    let capped : U * min uncapped (100 * K) ≤ U * (100 * K) = mul-le-mul-left U (min-le-right uncapped (100 * K)) in
+    let hundreds : U ≡ 100 * (U / 100) = omega arith in
+    let whole : U * K ≡ 100 * (U / 100 * K) = ap (λ (u : ℕ). u * K) hundreds ∙ mul-assoc 100 (U / 100) K in
+    omega (arith, capped, mul-left-comm U 100 K, whole)

@@ -1,4 +1,5 @@
 pub mod Charges
+pub mod Count
 pub mod Margin
 pub mod Netting
 pub mod Premium
