@@ -1,6 +1,5 @@
 // The amount A that the margin of one contract is made from.
-use terms::class::Class;
-use terms::right::Right;
+use terms::{Class, Right};
 ghost use mathlib.Core.Path.{_≡_};
 ghost use Prim.Native.Nat.{_*_};
 ghost use Rattle.rules.specs.Margin.{ratesOf, outOfTheMoney, amountOf, _less_butAtLeast_};

@@ -1,15 +1,15 @@
 // The exchange's arithmetic: the margin and the premium of one contract, and netting.
-pub mod amount;
+mod amount;
 
 use amount::amount;
 use amount::rates_of;
-use terms::class::Class;
-use terms::count::Contracts;
-use terms::count::Position;
-use terms::measure::Measure;
-use terms::measure::unit_allowed;
-use terms::refusal::Refusal;
-use terms::right::Right;
+use terms::Class;
+use terms::Contracts;
+use terms::Position;
+use terms::Measure;
+use terms::unit_allowed;
+use terms::Refusal;
+use terms::Right;
 ghost use mathlib.Core.Path.{_≡_};
 ghost use Prim.Native.Nat.{min};
 ghost use Rattle.rules.specs.Charges.{marginCharge, premiumCharge};

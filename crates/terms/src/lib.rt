@@ -1,7 +1,14 @@
 // The words of the trade, and the numbers that the paper gives for them.
-pub mod class;
-pub mod count;
-pub mod kind;
-pub mod measure;
-pub mod refusal;
-pub mod right;
+mod class;
+mod count;
+mod kind;
+mod measure;
+mod refusal;
+mod right;
+
+pub use class::{Class, ClassCoded};
+pub use count::{Contracts, Position, Units};
+pub use kind::{OrderKind, OrderKindCoded, Side};
+pub use measure::{CONTRACTS, Measure, PLACES, Range, UNDERLYINGS, unit_allowed};
+pub use refusal::Refusal;
+pub use right::{Right, RightCoded};

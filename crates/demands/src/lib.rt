@@ -1,0 +1,1 @@
+// No code: what is promised of the crates below stands in proofs/, as theorems.
