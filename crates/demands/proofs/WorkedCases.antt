@@ -31,20 +31,20 @@ Each P (x ∷ xs) = P x × Each P xs
 
 abbrev pub cases : List Case
 cases =
-    margin Fund Call 10_000 500 25_000 26_000 250_000 -- a
-    ∷ margin Fund Call 10_000 100 25_000 28_000 185_000 -- b
-    ∷ margin Fund Call 10_000 500 25_000 26_250 225_000 -- c
-    ∷ margin Fund Put 10_000 400 25_000 24_000 240_000 -- d
-    ∷ margin Fund Put 10_000 24_000 1_000 25_000 2_500_000 -- e
-    ∷ margin Stock Call 5_000 5_000 100_000 100_000 1_300_000 -- f
-    ∷ margin Stock Put 5_000 5_000 100_000 100_000 1_200_000 -- g
-    ∷ margin Fund Call 100 0 50 53 4 -- h
-    ∷ margin Fund Call 100 0 49 53 3 -- i
-    ∷ nets 10 6 0 4 0 0 -- j
-    ∷ nets 10 5 3 2 0 0 -- k
-    ∷ nets 10 12 3 0 2 3 -- l
-    ∷ nets 0 2 2 0 2 2 -- m
-    ∷ nets 10 0 15 0 0 5 -- n
+    margin Fund Call 10_000 500 25_000 26_000 250_000  -- a
+    ∷ margin Fund Call 10_000 100 25_000 28_000 185_000  -- b
+    ∷ margin Fund Call 10_000 500 25_000 26_250 225_000  -- c
+    ∷ margin Fund Put 10_000 400 25_000 24_000 240_000  -- d
+    ∷ margin Fund Put 10_000 24_000 1_000 25_000 2_500_000  -- e
+    ∷ margin Stock Call 5_000 5_000 100_000 100_000 1_300_000  -- f
+    ∷ margin Stock Put 5_000 5_000 100_000 100_000 1_200_000  -- g
+    ∷ margin Fund Call 100 0 50 53 4  -- h
+    ∷ margin Fund Call 100 0 49 53 3  -- i
+    ∷ nets 10 6 0 4 0 0  -- j
+    ∷ nets 10 5 3 2 0 0  -- k
+    ∷ nets 10 12 3 0 2 3  -- l
+    ∷ nets 0 2 2 0 2 2  -- m
+    ∷ nets 10 0 15 0 0 5  -- n
     ∷ []
 
 pub a-to-n : Each Holds cases

@@ -1,5 +1,6 @@
 // The amount A that the margin of one contract is made from.
-use terms::{Class, Right};
+use terms::Class;
+use terms::Right;
 ghost use mathlib.Core.Path.{_≡_};
 ghost use Prim.Native.Nat.{_*_};
 ghost use Rattle.rules.specs.Margin.{ratesOf, outOfTheMoney, amountOf, _less_butAtLeast_};
