@@ -2,8 +2,7 @@
 use terms::Class;
 use terms::Right;
 ghost use mathlib.Core.Path.{_≡_};
-ghost use Prim.Native.Nat.{_*_};
-ghost use Rattle.rules.specs.Margin.{ratesOf, outOfTheMoney, amountOf, _less_butAtLeast_};
+ghost use Rattle.rules.specs.Margin.{ratesOf, amountOf, _less_butAtLeast_};
 
 // The percentages r and f.
 pub struct Rates {
@@ -27,32 +26,18 @@ pub fn rates_of(class: Class, right: Right) -> Rates
 pub fn amount(rates: Rates, right: Right, settlement: u32, close: u32, strike: u32) -> u64
     ensures { λ a. ⌜ a ≡ amountOf rates right settlement close strike ⌝ }
 {
-    let base = 100 * (settlement as u64);
-    let percent = percent_of(rates.r, close);
-    let off = 100 * out_of_the_money(right, close as u64, strike as u64);
+    let r = rates.r as u64;
+    let f = rates.f as u64;
+    let s = settlement as u64;
+    let p = close as u64;
+    let k = strike as u64;
     match right {
-        Right::Call => base + less(percent, off, percent_of(rates.f, close)),
+        Right::Call => 100 * s + less(r * p, 100 * less(k, p, 0), f * p),
         Right::Put => {
-            let uncapped = base + less(percent, off, percent_of(rates.f, strike));
-            let cap = 100 * (strike as u64);
+            let uncapped = 100 * s + less(r * p, 100 * less(p, k, 0), f * k);
+            let cap = 100 * k;
             if uncapped < cap { uncapped } else { cap }
         }
-    }
-}
-
-// A percentage of a price, times 100.
-fn percent_of(rate: u8, price: u32) -> u64
-    ensures { λ a. ⌜ a ≡ rate * price ⌝ }
-{
-    rate as u64 * price as u64
-}
-
-fn out_of_the_money(right: Right, close: u64, strike: u64) -> u64
-    ensures { λ o. ⌜ o ≡ outOfTheMoney right close strike ⌝ }
-{
-    match right {
-        Right::Call => less(strike, close, 0),
-        Right::Put => less(close, strike, 0),
     }
 }
 
