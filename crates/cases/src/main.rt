@@ -2,7 +2,7 @@
 mod charges;
 mod input;
 mod output;
-mod words;
+mod ranges;
 
 use output::end;
 use output::text;
@@ -30,11 +30,7 @@ fn line(l: &[u8]) {
             b'm' => charges::margin(l),
             b'p' => charges::premium(l),
             b'n' => charges::net(l),
-            b'a' => words::allowed(l),
-            b'c' => words::class(l),
-            b'r' => words::right(l),
-            b'k' => words::kind(l),
-            b'u' => words::units(l),
+            b'a' => ranges::allowed(l),
             _ => (),
         }
     }
