@@ -1,6 +1,5 @@
-use crate::input::half;
+use crate::input::field;
 use crate::input::word;
-use crate::output::equals;
 use crate::output::number;
 use crate::output::text;
 use rules::Charge;
@@ -12,7 +11,7 @@ use terms::Right;
 use terms::RightCoded;
 
 fn charge(c: Charge) {
-    equals();
+    text(b" =");
     match c {
         Charge::Fen(fen) => number(fen),
         Charge::Refused(why) => {
@@ -24,10 +23,10 @@ fn charge(c: Charge) {
 
 // Class, right, settlement, close, strike, unit.
 pub fn margin(l: &[u8]) {
-    let ClassCoded::Listed(class) = Class::coded(half(l, 1)) else {
+    let ClassCoded::Listed(class) = Class::coded((field(l, 1) % 65_536) as u16) else {
         return;
     };
-    let RightCoded::Listed(right) = Right::coded(half(l, 2)) else {
+    let RightCoded::Listed(right) = Right::coded((field(l, 2) % 65_536) as u16) else {
         return;
     };
     charge(rules::margin(class, right, word(l, 3), word(l, 4), word(l, 5), word(l, 6)));
@@ -45,7 +44,7 @@ pub fn net(l: &[u8]) {
         short: Contracts(word(l, 2)),
         covered: Contracts(word(l, 3)),
     });
-    equals();
+    text(b" =");
     number(netted.long.0 as u64);
     number(netted.short.0 as u64);
     number(netted.covered.0 as u64);

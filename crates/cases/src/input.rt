@@ -40,10 +40,6 @@ fn digit_after(value: u64, b: u8) -> u64 {
     }
 }
 
-pub fn half(l: &[u8], k: usize) -> u16 {
-    (field(l, k) % 65_536) as u16
-}
-
 pub fn word(l: &[u8], k: usize) -> u32 {
     (field(l, k) % 4_294_967_296) as u32
 }

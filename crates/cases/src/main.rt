@@ -4,7 +4,6 @@ mod input;
 mod output;
 mod ranges;
 
-use output::end;
 use output::text;
 
 fn main() {
@@ -34,5 +33,5 @@ fn line(l: &[u8]) {
             _ => (),
         }
     }
-    end();
+    text(b"\n");
 }

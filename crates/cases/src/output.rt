@@ -4,15 +4,7 @@ pub fn text(bytes: &[u8]) {
     io::write_all(STDOUT_FILENO, bytes);
 }
 
-pub fn equals() {
-    text(b" =");
-}
-
 pub fn number(n: u64) {
     text(b" ");
     io::print_decimal(STDOUT_FILENO, n);
-}
-
-pub fn end() {
-    text(b"\n");
 }

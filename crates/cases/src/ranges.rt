@@ -1,6 +1,6 @@
 use crate::input::field;
-use crate::output::equals;
 use crate::output::number;
+use crate::output::text;
 use terms::Measure;
 
 fn measure(n: u64) -> Measure {
@@ -24,7 +24,7 @@ fn measure(n: u64) -> Measure {
 pub fn allowed(l: &[u8]) {
     let of = field(l, 1);
     let value = field(l, 2);
-    equals();
+    text(b" =");
     if of == 13 {
         number(terms::unit_allowed(value) as u64);
     } else {
