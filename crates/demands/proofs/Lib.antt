@@ -1,3 +1,4 @@
--- The promises that this product makes, each a theorem over the crates' definitions or their functions' generated contracts.
+-- What this product promises, as theorems over the crates' definitions and over the contracts generated from their functions.
 pub mod OneOutcome
+pub mod Told
 pub mod WorkedCases

@@ -1,13 +1,12 @@
--- The cases a to n of the paper hold of the definitions: each side is a number, and they compute to the same.
-use mathlib.Core.Path.{_≡_, refl}
-use mathlib.Core.List.{List, [], _∷_, map}
+-- The cases a to n of document 01 hold of the definitions: both sides of each are written-out numbers, and computing makes them the same.
+use mathlib.Core.Path.{_≡_}
+use mathlib.Core.List.{List, [], _∷_}
 use Prim.Native.Nat.{ℕ}
 use Rattle.terms.specs.declared.class.Class.{Class}
 use Rattle.terms.specs.declared.class.Class.the-variants.{Stock, Fund}
 use Rattle.terms.specs.declared.right.Right.{Right}
 use Rattle.terms.specs.declared.right.Right.the-variants.{Call, Put}
 use Rattle.terms.specs.declared.count.Position.{Position}
-use Rattle.rules.specs.declared.Charge.{Charge}
 use Rattle.rules.specs.declared.Charge.the-variants.{Fen}
 use Rattle.rules.specs.Charges.{marginCharge, marginAllowed}
 use Rattle.rules.specs.Margin.{ratesOf, outOfTheMoney, amountOf, marginOf, halvesUp, _less_butAtLeast_}

@@ -17,11 +17,6 @@ use Rattle.rules.specs.Margin.{_less_butAtLeast_, ratesOf, outOfTheMoney
 use Rattle.rules.specs.declared.amount.Rates.{Rates}
 use Rattle.rules.proofs.Less.{bounded}
 
-pub out-bounded : (t : Right) (P K : ℕ) → outOfTheMoney t P K ≤ P + K
-unfolding outOfTheMoney
-out-bounded Call P K = omega (arith, bounded K P 0)
-out-bounded Put P K = omega (arith, bounded P K 0)
-
 pub amount-bounded : (most : ℕ) (q : Rates) (t : Right) (S P K : ℕ) → S ≤ most → P ≤ most → K ≤ most → amountOf q t S P K ≤ 100 * most + q .r * most + q .f * most
 unfolding amountOf
 amount-bounded most q Call S P K s p k =

@@ -1,6 +1,6 @@
 -- Netting takes the lesser of long and short off both, then the lesser of what is left of long and covered off both: each fact is one of linear arithmetic with the lesser of two numbers.
 use mathlib.Core.Path.{_≡_}
-use Prim.Native.Nat.{ℕ, _+_, _-_, _≤_, _<_, min}
+use Prim.Native.Nat.{_+_, _-_, _≤_, _<_, min}
 use native.Mathlib.Nat.{sub-zero}
 use native.Mathlib.Omega.{arith}
 use Rattle.terms.specs.declared.count.Position.{Position}

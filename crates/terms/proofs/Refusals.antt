@@ -5,12 +5,12 @@ use Prim.Native.Nat.{ℕ, _-_}
 use lib.ListN.{getD}
 use Rattle.terms.specs.Refusals.{numberOf}
 use Rattle.terms.specs.declared.refusal.Refusal.{Refusal}
-use Rattle.terms.specs.declared.refusal.Refusal.the-variants.{CutShort, UnknownKind, Misshapen, OutOfRange, OutOfPlace, StaleNumber, NoSuchOrder, OrdersFull, PositionTooSmall, RightsPassed, TotalPassed, DailyPassed, SpareTooFew, AvailableTooLow, CeilingPassed, FillBarred, BufferTooShort, CashBelowZero}
+use Rattle.terms.specs.declared.refusal.Refusal.the-variants.{CutShort, UnknownKind, Misshapen, OutOfRange, OutOfPlace, StaleNumber, NoSuchOrder, OrdersFull, PositionTooSmall, RightsPassed, TotalPassed, DailyPassed, SpareTooFew, AvailablePassed, CeilingPassed, FillBarred, BufferTooShort, CashBelowZero}
 
 abbrev pub reasons : List Refusal
 reasons =
     CutShort ∷ UnknownKind ∷ Misshapen ∷ OutOfRange ∷ OutOfPlace ∷ StaleNumber ∷ NoSuchOrder ∷ OrdersFull ∷ PositionTooSmall
-    ∷ RightsPassed ∷ TotalPassed ∷ DailyPassed ∷ SpareTooFew ∷ AvailableTooLow ∷ CeilingPassed ∷ FillBarred ∷ BufferTooShort ∷ CashBelowZero ∷ []
+    ∷ RightsPassed ∷ TotalPassed ∷ DailyPassed ∷ SpareTooFew ∷ AvailablePassed ∷ CeilingPassed ∷ FillBarred ∷ BufferTooShort ∷ CashBelowZero ∷ []
 
 abbrev reason : ℕ → Refusal
 reason n = getD reasons (n - 1) CutShort
@@ -29,7 +29,7 @@ placed RightsPassed = refl
 placed TotalPassed = refl
 placed DailyPassed = refl
 placed SpareTooFew = refl
-placed AvailableTooLow = refl
+placed AvailablePassed = refl
 placed CeilingPassed = refl
 placed FillBarred = refl
 placed BufferTooShort = refl

@@ -1,3 +1,4 @@
+-- The codes that records carry for words (Records; Orders and fills).
 use Prim.Native.Nat.{ℕ}
 use mathlib.Core.Bool.{cond}
 use mathlib.Core.List.{List, [], _∷_}
@@ -15,14 +16,17 @@ use Rattle.terms.specs.declared.kind.OrderKind.the-variants.{BuyOpen, Se
 use Rattle.terms.specs.declared.kind.OrderKindCoded.{OrderKindCoded}
 use Rattle.terms.specs.declared.kind.OrderKindCoded.the-variants as KindAnswer
 
+-- kind 16: 1 stock or 2 fund (house)
 abbrev pub classCode : Class → ℕ
 classCode Stock = 1
 classCode Fund = 2
 
+-- kind 17: 1 call or 2 put (house)
 abbrev pub rightCode : Right → ℕ
 rightCode Call = 1
 rightCode Put = 2
 
+-- kind 5: 1 buy open, 2 sell close, 3 sell open, 4 buy close, 5 covered open, 6 covered close (house)
 abbrev pub kindCode : OrderKind → ℕ
 kindCode BuyOpen = 1
 kindCode SellClose = 2
@@ -31,7 +35,7 @@ kindCode BuyClose = 4
 kindCode CoveredOpen = 5
 kindCode CoveredClose = 6
 
--- the first word of the list whose code is n, or that n is unlisted
+-- how a code is read: as the word of a list that has it, or as not listed
 abbrev pub coded : {W A : Type 0} → (W → ℕ) → (W → A) → A → List W → ℕ → A
 coded code listed unlisted [] n = unlisted
 coded code listed unlisted (w ∷ ws) n = cond (eqb n (code w)) (listed w) (coded code listed unlisted ws n)

@@ -1,9 +1,11 @@
+-- Three questions about a kind of order, from which the rest follows (Orders and fills).
 use mathlib.Core.Bool.{Bool, true, false}
 use Rattle.terms.specs.declared.kind.OrderKind.{OrderKind}
 use Rattle.terms.specs.declared.kind.OrderKind.the-variants.{BuyOpen, SellClose, SellOpen, BuyClose, CoveredOpen, CoveredClose}
 use Rattle.terms.specs.declared.kind.Side.{Side}
 use Rattle.terms.specs.declared.kind.Side.the-variants.{Long, Short, Covered}
 
+-- which count of the position does it move?
 abbrev pub movesOf : OrderKind → Side
 movesOf BuyOpen = Long
 movesOf SellClose = Long
@@ -12,6 +14,7 @@ movesOf BuyClose = Short
 movesOf CoveredOpen = Covered
 movesOf CoveredClose = Covered
 
+-- does it open, or close?
 abbrev pub opensOf : OrderKind → Bool
 opensOf BuyOpen = true
 opensOf SellClose = false
@@ -20,6 +23,7 @@ opensOf BuyClose = false
 opensOf CoveredOpen = true
 opensOf CoveredClose = false
 
+-- does it buy, or sell? A covered open is a sale, a covered close buys it back.
 abbrev pub buysOf : OrderKind → Bool
 buysOf BuyOpen = true
 buysOf SellClose = false

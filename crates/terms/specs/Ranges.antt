@@ -1,5 +1,6 @@
+-- Every range and ceiling of document 01's "Numbers", in its order (house). Both ends are in the range.
 use Prim.Native.Nat.{ℕ, _%_}
-use mathlib.Core.Bool.{Bool, true, false, _&&_}
+use mathlib.Core.Bool.{Bool, _&&_}
 use lib.Dec.{leb, eqb}
 use Rattle.terms.specs.declared.measure.Range.{Range}
 use Rattle.terms.specs.declared.measure.Measure.{Measure}
@@ -8,24 +9,25 @@ use Rattle.terms.specs.declared.measure.Measure.the-variants.{Underlying
 infix 20 _to_
 infix 15 _∈_
 abbrev pub _to_ : ℕ → ℕ → Range
-a to b = record { 0 = a; 1 = b }
+least to most = record { 0 = least; 1 = most }
 
 abbrev pub _∈_ : ℕ → Range → Bool
 x ∈ range = leb (range .0) x && leb x (range .1)
 
 abbrev pub rangeOf : Measure → Range
-rangeOf Underlyings = 1 to 8
-rangeOf Contracts = 1 to 64
-rangeOf Resting = 0 to 32
-rangeOf Price = 1 to 10_000_000
-rangeOf Settlement = 0 to 10_000_000
-rangeOf Quantity = 1 to 100
-rangeOf Limit = 0 to 10_000
-rangeOf Transfer = 1 to 10_000_000_000_000
-rangeOf OpeningCash = 0 to 1_000_000_000_000_000
-rangeOf UnitsAtOnce = 1 to 1_000_000_000
-rangeOf Money = 0 to 1_000_000_000_000_000
-rangeOf LockedUnits = 0 to 2_000_000_000
+rangeOf Underlyings = 1 to 8  -- up to 8 underlyings: m
+rangeOf Contracts = 1 to 64  -- up to 64 contracts: n
+rangeOf Resting = 0 to 32  -- 32 resting orders
+rangeOf Price = 1 to 10_000_000  -- prior close, strike and order or fill price
+rangeOf Settlement = 0 to 10_000_000  -- settlement price (zero is a price)
+rangeOf Quantity = 1 to 100  -- quantity
+rangeOf Limit = 0 to 10_000  -- limits: rights, total, daily
+rangeOf Transfer = 1 to 10_000_000_000_000  -- deposit or withdrawal
+rangeOf OpeningCash = 0 to 1_000_000_000_000_000  -- opening cash
+rangeOf UnitsAtOnce = 1 to 1_000_000_000  -- units locked or unlocked at once
+rangeOf Money = 0 to 1_000_000_000_000_000  -- ceiling: cash plus covered premium
+rangeOf LockedUnits = 0 to 2_000_000_000  -- ceiling: locked units of one underlying
 
+-- contract unit 100 to 100,000, a multiple of 100, so a premium is exact
 abbrev pub unitAllowed : ℕ → Bool
 unitAllowed unit = (unit ∈ (100 to 100_000)) && eqb (unit % 100) 0

@@ -1,23 +1,24 @@
+-- The refusal numbers, in the order and the words of document 01's table (house).
 use Prim.Native.Nat.{ℕ}
 use Rattle.terms.specs.declared.refusal.Refusal.{Refusal}
-use Rattle.terms.specs.declared.refusal.Refusal.the-variants.{CutShort, UnknownKind, Misshapen, OutOfRange, OutOfPlace, StaleNumber, NoSuchOrder, OrdersFull, PositionTooSmall, RightsPassed, TotalPassed, DailyPassed, SpareTooFew, AvailableTooLow, CeilingPassed, FillBarred, BufferTooShort, CashBelowZero}
+use Rattle.terms.specs.declared.refusal.Refusal.the-variants.{CutShort, UnknownKind, Misshapen, OutOfRange, OutOfPlace, StaleNumber, NoSuchOrder, OrdersFull, PositionTooSmall, RightsPassed, TotalPassed, DailyPassed, SpareTooFew, AvailablePassed, CeilingPassed, FillBarred, BufferTooShort, CashBelowZero}
 
 abbrev pub numberOf : Refusal → ℕ
-numberOf CutShort = 1
-numberOf UnknownKind = 2
-numberOf Misshapen = 3
-numberOf OutOfRange = 4
-numberOf OutOfPlace = 5
-numberOf StaleNumber = 6
-numberOf NoSuchOrder = 7
-numberOf OrdersFull = 8
-numberOf PositionTooSmall = 9
-numberOf RightsPassed = 10
-numberOf TotalPassed = 11
-numberOf DailyPassed = 12
-numberOf SpareTooFew = 13
-numberOf AvailableTooLow = 14
-numberOf CeilingPassed = 15
-numberOf FillBarred = 16
-numberOf BufferTooShort = 17
-numberOf CashBelowZero = 18
+numberOf CutShort = 1  -- record cut short
+numberOf UnknownKind = 2  -- kind not in the table
+numberOf Misshapen = 3  -- length doesn't fit the kind, n or m out of range, or a code not listed
+numberOf OutOfRange = 4  -- a value outside its range, and what else the table has under 4
+numberOf OutOfPlace = 5  -- record out of its place, or an opening with no contract yet
+numberOf StaleNumber = 6  -- order number not above the last accepted
+numberOf NoSuchOrder = 7  -- no such order resting
+numberOf OrdersFull = 8  -- 32 orders resting
+numberOf PositionTooSmall = 9  -- position too small to close
+numberOf RightsPassed = 10  -- rights limit passed
+numberOf TotalPassed = 11  -- total limit passed
+numberOf DailyPassed = 12  -- daily limit passed
+numberOf SpareTooFew = 13  -- spare units too few
+numberOf AvailablePassed = 14  -- hold or withdrawal greater than available
+numberOf CeilingPassed = 15  -- a ceiling passed
+numberOf FillBarred = 16  -- fill above the remainder, or at a price the order bars
+numberOf BufferTooShort = 17  -- writing buffer shorter than the record
+numberOf CashBelowZero = 18  -- fill would bring cash below zero

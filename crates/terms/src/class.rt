@@ -1,12 +1,13 @@
 ghost use mathlib.Core.Path.{_≡_};
 ghost use Rattle.terms.specs.Codes.{classCode, classCoded};
 
-// What the underlying is.
+// What an underlying is.
 pub enum Class {
     Stock,
     Fund,
 }
 
+// What a code says. A code that is not listed is an answer too: the reader of records refuses it.
 pub enum ClassCoded {
     Listed(Class),
     Unlisted,

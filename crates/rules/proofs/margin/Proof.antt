@@ -1,5 +1,5 @@
 -- `margin` meets its contract: the four tests decide between the two cases of the definition, and the quotient with 5,000 added is the one rounded halves up. Nothing wraps, since the figures passed the tests.
-use mathlib.Core.Path.{_≡_, _∙_, sym, ap}
+use mathlib.Core.Path.{_≡_, _∙_, ap}
 use mathlib.Core.Bool.{true, _&&_}
 use Prim.Native.Nat.{ℕ, _+_, _*_, _/_, _≤_}
 use native.Mathlib.Nat.{mul-le-mul}
@@ -32,15 +32,10 @@ tested : (c : tie.After-unit-allowed) → marginAllowed (c .before .before .befo
 unfolding marginAllowed
 tested c = rw (c .before .before .before .allows .ensures, c .before .before .allows2 .ensures, c .before .allows3 .ensures, c .unit-allowed .ensures)
 
-mul-t25 : tie.Need-mul-t25
-mul-t25 c =
+product : (c : tie.After-amount) → c .before .before .before .before .before .before .before .args .unit * c .amount .result ≤ 131_000_000_000_000
+product c =
     let test = c .before .before in
-    omega (arith, small _ _ _ _ _ _ (tested (test .before) ∙ test .if1 .taken) _ _ (c .before .rates-of .ensures) (c .amount .ensures))
-
-add-t26 : tie.Need-add-t26
-add-t26 c =
-    let test = c .before .before in
-    omega (arith, small _ _ _ _ _ _ (tested (test .before) ∙ test .if1 .taken) _ _ (c .before .rates-of .ensures) (c .amount .ensures))
+    small _ _ _ _ _ _ (tested (test .before) ∙ test .if1 .taken) _ _ (c .before .rates-of .ensures) (c .amount .ensures)
 
 returns : tie.Need-returns
 returns c =
@@ -52,4 +47,16 @@ unfolding marginCharge
 refused c = simp (tested (c .before) ∙ c .if1 .left)
 
 pub margin-spec : {M : Type 1} → statement M
-margin-spec = tie.close (tie.spec (λ c κs. tt) (λ c κs. tt) (λ c κs. tt) (λ c κs. tt) (λ c κs. tt) (λ c κs. tt) mul-t25 add-t26 returns refused)
+margin-spec =
+    tie.close
+    (tie.spec
+    (λ c κs. tt)
+    (λ c κs. tt)
+    (λ c κs. tt)
+    (λ c κs. tt)
+    (λ c κs. tt)
+    (λ c κs. tt)
+    (λ c. omega (arith, product c))
+    (λ c. omega (arith, product c))
+    returns
+    refused)
