@@ -1,3 +1,4 @@
+// Margins, premiums and netting: the numbers of a line, and what the functions make of them.
 use crate::input::field;
 use crate::input::word;
 use crate::output::number;

@@ -1,3 +1,4 @@
+// What is written to standard output.
 use libc::STDOUT_FILENO;
 
 pub fn text(bytes: &[u8]) {

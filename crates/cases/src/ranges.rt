@@ -1,3 +1,4 @@
+// The ranges: a measure by its number, a value, and 1 where the value is allowed.
 use crate::input::field;
 use crate::output::number;
 use crate::output::text;

@@ -1,3 +1,4 @@
+// Stocks and funds.
 ghost use mathlib.Core.Path.{_≡_};
 ghost use Rattle.terms.specs.Codes.{classCode, classCoded};
 

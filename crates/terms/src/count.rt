@@ -1,3 +1,4 @@
+// Contracts and units of the underlying, counted apart.
 ghost use mathlib.Core.Path.{_≡_};
 ghost use Rattle.terms.specs.Counts.{unitsFor};
 

@@ -1,8 +1,8 @@
+// The kinds of order, and three questions about each.
 ghost use mathlib.Core.Path.{_≡_};
 ghost use Rattle.terms.specs.Codes.{kindCode, kindCoded};
 ghost use Rattle.terms.specs.Kinds.{movesOf, opensOf, buysOf};
 
-// The six kinds of order.
 pub enum OrderKind {
     BuyOpen,
     SellClose,
@@ -12,6 +12,7 @@ pub enum OrderKind {
     CoveredClose,
 }
 
+// What a code says.
 pub enum OrderKindCoded {
     Listed(OrderKind),
     Unlisted,

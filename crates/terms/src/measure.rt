@@ -1,13 +1,14 @@
+// What numbers measure, and the range of each.
 ghost use mathlib.Core.Path.{_≡_};
 ghost use Rattle.terms.specs.Ranges.{rangeOf, unitAllowed, _∈_};
 
+// The sizes of the tables and of the account's places for orders: constants, since arrays have these lengths.
 pub const UNDERLYINGS: usize = 8;
 
 pub const CONTRACTS: usize = 64;
 
 pub const PLACES: usize = 32;
 
-// What a number measures, and so between which ends it lies.
 pub enum Measure {
     Underlyings,
     Contracts,
@@ -54,7 +55,7 @@ impl Measure {
     }
 }
 
-// A multiple of 100, so that a premium is exact.
+// The contract unit stands apart from the table: it has to be a multiple of 100 too, so that a premium is exact.
 pub fn unit_allowed(unit: u64) -> bool
     ensures { λ r. ⌜ r ≡ unitAllowed unit ⌝ }
 {

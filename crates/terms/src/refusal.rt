@@ -1,3 +1,4 @@
+// The reasons for a refusal.
 ghost use mathlib.Core.Path.{_≡_};
 ghost use Rattle.terms.specs.Refusals.{numberOf};
 

@@ -1,3 +1,4 @@
+// Calls and puts.
 ghost use mathlib.Core.Path.{_≡_};
 ghost use Rattle.terms.specs.Codes.{rightCode, rightCoded};
 
@@ -7,6 +8,7 @@ pub enum Right {
     Put,
 }
 
+// What a code says.
 pub enum RightCoded {
     Listed(Right),
     Unlisted,
