@@ -11,7 +11,7 @@ use Rattle.terms.specs.declared.class.Class.the-variants.{Stock, Fund}
 use Rattle.terms.specs.declared.measure.Measure.the-variants.{Price, Settlement}
 use Rattle.terms.specs.declared.right.Right.{Right}
 use Rattle.terms.specs.declared.right.Right.the-variants.{Call, Put}
-use Rattle.terms.proofs.Ranges.{left, right, inside, unit-inside}
+use Rattle.terms.proofs.Ranges.{first-holds, second-holds, inside, unit-inside}
 use Rattle.rules.specs.Charges.{marginAllowed}
 use Rattle.rules.specs.Margin.{_less_butAtLeast_, ratesOf, outOfTheMoney, amountOf, marginOf, halvesUp}
 use Rattle.rules.specs.declared.amount.Rates.{Rates}
@@ -44,13 +44,13 @@ figures S P K U h =
     let s = S ∈ rangeOf Settlement in
     let p = P ∈ rangeOf Price in
     let k = K ∈ rangeOf Price in
-    let spk = left (s && p && k) (unitAllowed U) h in
-    let sp = left (s && p) k spk in
-    let u = unit-inside U (right (s && p && k) (unitAllowed U) h) in
+    let spk = first-holds (s && p && k) (unitAllowed U) h in
+    let sp = first-holds (s && p) k spk in
+    let u = unit-inside U (second-holds (s && p && k) (unitAllowed U) h) in
     record {
-      settlement = inside S (rangeOf Settlement) (left s p sp) .1;
-      close = inside P (rangeOf Price) (right s p sp) .1;
-      strike = inside K (rangeOf Price) (right (s && p) k spk) .1;
+      settlement = inside S (rangeOf Settlement) (first-holds s p sp) .1;
+      close = inside P (rangeOf Price) (second-holds s p sp) .1;
+      strike = inside K (rangeOf Price) (second-holds (s && p) k spk) .1;
       unit = u .1;
       hundreds = u .2;
     }
