@@ -5,7 +5,8 @@ use Prim.Native.Nat.{ℕ, _≤_, _%_}
 use borrow.Author.Tests.{leb-true, eqb-true}
 use lib.Dec.{leb, eqb}
 use Rattle.terms.specs.declared.measure.Range.{Range}
-use Rattle.terms.specs.Ranges.{_to_, _∈_, unitAllowed}
+use Rattle.terms.specs.declared.measure.Measure.the-variants.{Unit}
+use Rattle.terms.specs.Ranges.{rangeOf, _∈_, unitAllowed}
 
 pub first-holds : (a b : Bool) → (a && b) ≡ true → a ≡ true
 first-holds true b h = refl
@@ -24,7 +25,7 @@ inside x range h =
 
 pub unit-inside : (unit : ℕ) → unitAllowed unit ≡ true → (100 ≤ unit) × (unit ≤ 100_000) × (unit % 100 ≡ 0)
 unit-inside unit h =
-    let ends = unit ∈ (100 to 100_000) in
+    let ends = unit ∈ rangeOf Unit in
     let hundreds = eqb (unit % 100) 0 in
-    let between = inside unit (100 to 100_000) (first-holds ends hundreds h) in
+    let between = inside unit (rangeOf Unit) (first-holds ends hundreds h) in
     (between .0, between .1, eqb-true _ _ (second-holds ends hundreds h))

@@ -4,7 +4,7 @@ use mathlib.Core.Bool.{Bool, _&&_}
 use lib.Dec.{leb, eqb}
 use Rattle.terms.specs.declared.measure.Range.{Range}
 use Rattle.terms.specs.declared.measure.Measure.{Measure}
-use Rattle.terms.specs.declared.measure.Measure.the-variants.{Underlyings, Contracts, Resting, Price, Settlement, Quantity, Limit, Transfer, OpeningCash, UnitsAtOnce, Money, LockedUnits}
+use Rattle.terms.specs.declared.measure.Measure.the-variants.{Underlyings, Contracts, Resting, Price, Settlement, Unit, Quantity, Limit, Transfer, OpeningCash, UnitsAtOnce, Money, LockedUnits}
 
 infix 20 _to_
 infix 15 _∈_
@@ -20,6 +20,7 @@ rangeOf Contracts = 1 to 64  -- up to 64 contracts: n
 rangeOf Resting = 0 to 32  -- 32 resting orders
 rangeOf Price = 1 to 10_000_000  -- prior close, strike and order or fill price
 rangeOf Settlement = 0 to 10_000_000  -- settlement price (zero is a price)
+rangeOf Unit = 100 to 100_000  -- contract unit, and see below
 rangeOf Quantity = 1 to 100  -- quantity
 rangeOf Limit = 0 to 10_000  -- limits: rights, total, daily
 rangeOf Transfer = 1 to 10_000_000_000_000  -- deposit or withdrawal
@@ -28,6 +29,6 @@ rangeOf UnitsAtOnce = 1 to 1_000_000_000  -- units locked or unlocked at once
 rangeOf Money = 0 to 1_000_000_000_000_000  -- ceiling: cash plus covered premium
 rangeOf LockedUnits = 0 to 2_000_000_000  -- ceiling: locked units of one underlying
 
--- contract unit 100 to 100,000, a multiple of 100, so a premium is exact
+-- a contract unit is a multiple of 100 besides, so a premium is exact
 abbrev pub unitAllowed : ℕ → Bool
-unitAllowed unit = (unit ∈ (100 to 100_000)) && eqb (unit % 100) 0
+unitAllowed unit = (unit ∈ rangeOf Unit) && eqb (unit % 100) 0

@@ -9,12 +9,15 @@ pub const CONTRACTS: usize = 64;
 
 pub const PLACES: usize = 32;
 
+const UNIT_STEP: u64 = 100;
+
 pub enum Measure {
     Underlyings,
     Contracts,
     Resting,
     Price,
     Settlement,
+    Unit,
     Quantity,
     Limit,
     Transfer,
@@ -37,6 +40,7 @@ impl Measure {
             Measure::Resting => Range(0, PLACES as u64),
             Measure::Price => Range(1, 10_000_000),
             Measure::Settlement => Range(0, 10_000_000),
+            Measure::Unit => Range(100, 100_000),
             Measure::Quantity => Range(1, 100),
             Measure::Limit => Range(0, 10_000),
             Measure::Transfer => Range(1, 10_000_000_000_000),
@@ -55,9 +59,9 @@ impl Measure {
     }
 }
 
-// The contract unit stands apart from the table: it has to be a multiple of 100 too, so that a premium is exact.
+// A contract unit is in its range and a multiple of 100, so that a premium is exact.
 pub fn unit_allowed(unit: u64) -> bool
     ensures { λ r. ⌜ r ≡ unitAllowed unit ⌝ }
 {
-    (100 <= unit) & (unit <= 100_000) & (unit % 100 == 0)
+    Measure::Unit.allows(unit) & (unit % UNIT_STEP == 0)
 }
