@@ -1,8 +1,8 @@
 -- Bounds of one margin, over r and f: what `less` answers is at most its difference and its floor together, and each of these is a percentage of a price.
-use mathlib.Core.Path.{_≡_, ap, _∙_}
+use mathlib.Core.Path.{_≡_}
 use mathlib.Core.Bool.{true, _&&_}
 use Prim.Native.Nat.{ℕ, _+_, _*_, _/_, _%_, _≤_, _<_, min}
-use native.Mathlib.Nat.{mul-assoc, mul-left-comm, mul-le-mul, mul-le-mul-left, min-le-right}
+use native.Mathlib.Nat.{mul-left-comm, mul-le-mul, mul-le-mul-left, min-le-right}
 use native.Mathlib.Omega.{arith}
 use lib.Dec.{lit≤}
 use Rattle.terms.specs.Ranges.{rangeOf, unitAllowed, _∈_}
@@ -16,6 +16,7 @@ use Rattle.rules.specs.Charges.{marginAllowed}
 use Rattle.rules.specs.Margin.{_less_butAtLeast_, ratesOf, outOfTheMoney, amountOf, marginOf, halvesUp}
 use Rattle.rules.specs.declared.amount.Rates.{Rates}
 use Rattle.rules.proofs.Less.{bounded}
+use Rattle.rules.proofs.Rounding.{hundreds}
 
 pub amount-bounded : (most : ℕ) (q : Rates) (t : Right) (S P K : ℕ) → S ≤ most → P ≤ most → K ≤ most → amountOf q t S P K ≤ 100 * most + q .r * most + q .f * most
 unfolding amountOf
@@ -73,6 +74,4 @@ unfolding amountOf marginOf halvesUp
 put-capped q S P K U h =
     let uncapped = 100 * S + (q .r * P less 100 * outOfTheMoney Put P K butAtLeast q .f * K) in
     let capped : U * min uncapped (100 * K) ≤ U * (100 * K) = mul-le-mul-left U (min-le-right uncapped (100 * K)) in
-    let hundreds : U ≡ 100 * (U / 100) = omega arith in
-    let whole : U * K ≡ 100 * (U / 100 * K) = ap (λ (u : ℕ). u * K) hundreds ∙ mul-assoc 100 (U / 100) K in
-    omega (arith, capped, mul-left-comm U 100 K, whole)
+    omega (arith, capped, mul-left-comm U 100 K, hundreds U K h)

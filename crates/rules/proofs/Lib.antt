@@ -1,5 +1,5 @@
--- Laws of the arithmetic that the proofs below and the layers above lean on.
+-- Laws of the arithmetic that the functions' proofs and the layers above lean on.
+pub mod Bounds
 pub mod Less
 pub mod Netting
 pub mod Rounding
-pub mod Bounds

@@ -1,7 +1,7 @@
 -- Rounding is to the nearest, halves up: the quotient's two bounds say so. What is rounded is one contract's: a count multiplies what was rounded, so the shares of a part fill and of the rest add up to the whole.
 use mathlib.Core.Path.{_≡_, refl, _∙_, ap}
 use Prim.Native.Nat.{ℕ, _+_, _*_, _/_, _%_, _≤_, _<_}
-use native.Mathlib.Nat.{mul-div-le, lt-mul-div-succ, mul-left-comm, add-mul}
+use native.Mathlib.Nat.{mul-div-le, lt-mul-div-succ, mul-assoc, mul-comm, add-mul}
 use native.Mathlib.Omega.{arith}
 use borrow.Author.Tests.{eqb-false}
 use Rattle.rules.specs.Count.{forCount}
@@ -13,13 +13,16 @@ pub nearest : (x d : ℕ) → 0 < d → (2 * d * halvesUp x d ≤ 2 * x + d) × 
 unfolding halvesUp
 nearest x d h = (mul-div-le (2 * x + d) (2 * d), lt-mul-div-succ (2 * x + d) (omega arith))
 
--- with a unit that is a multiple of 100 a premium is exact
+-- a multiple of 100 times x is 100 times a whole number
+pub hundreds : (U x : ℕ) → U % 100 ≡ 0 → U * x ≡ 100 * (U / 100 * x)
+hundreds U x h =
+    let whole : U ≡ 100 * (U / 100) = omega arith in
+    ap (λ (u : ℕ). u * x) whole ∙ mul-assoc 100 (U / 100) x
+
+-- so a premium is exact
 pub premium-exact : (price U : ℕ) → U % 100 ≡ 0 → 100 * premiumOf price U ≡ price * U
 unfolding premiumOf
-premium-exact price U h =
-    let hundreds : U ≡ 100 * (U / 100) = omega arith in
-    let whole : price * U ≡ 100 * (price * (U / 100)) = ap (λ (u : ℕ). price * u) hundreds ∙ mul-left-comm price 100 (U / 100) in
-    omega (arith, whole)
+premium-exact price U h = omega (arith, mul-comm price U, hundreds U price h)
 
 -- the shares of a part fill and of the rest add up to the whole, since each contract was rounded by itself
 pub shares : (filled rest one : ℕ) → forCount (filled + rest) one ≡ forCount filled one + forCount rest one

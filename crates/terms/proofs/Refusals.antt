@@ -1,6 +1,6 @@
--- The reasons have distinct numbers, from 1 to 18: the list of all reasons in the paper's order has each at its number's place.
+-- The reasons have distinct numbers, and these are 1 to 18 in the paper's order: the list of all reasons has each at its number's place, which computes.
 use mathlib.Core.Path.{_≡_, refl, sym, ap, _∙_}
-use mathlib.Core.List.{List, [], _∷_}
+use mathlib.Core.List.{List, [], _∷_, map}
 use Prim.Native.Nat.{ℕ, _-_}
 use lib.ListN.{getD}
 use Rattle.terms.specs.Refusals.{numberOf}
@@ -14,6 +14,9 @@ reasons =
 
 abbrev reason : ℕ → Refusal
 reason n = getD reasons (n - 1) CutShort
+
+pub numbered : map numberOf reasons ≡ 1 ∷ 2 ∷ 3 ∷ 4 ∷ 5 ∷ 6 ∷ 7 ∷ 8 ∷ 9 ∷ 10 ∷ 11 ∷ 12 ∷ 13 ∷ 14 ∷ 15 ∷ 16 ∷ 17 ∷ 18 ∷ []
+numbered = refl
 
 pub placed : (why : Refusal) → reason (numberOf why) ≡ why
 placed CutShort = refl
