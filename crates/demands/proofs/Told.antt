@@ -1,5 +1,5 @@
--- What the two public charges say in the paper's numbers: number 0 and the fen where every figure is in its range, else number 4 and no fen. The test has two outcomes, and each computes.
-use mathlib.Core.Path.{_≡_, refl}
+-- The two public charges say what they should in the paper's numbers: the test of the figures has two outcomes, and each computes.
+use mathlib.Core.Path.{refl}
 use mathlib.Core.Bool.{Bool, true, false, cond}
 use Prim.Native.Nat.{ℕ}
 use Rattle.terms.specs.declared.class.Class.{Class}
@@ -8,11 +8,8 @@ use Rattle.terms.specs.declared.right.Right.{Right}
 use Rattle.rules.specs.Charges.{marginAllowed, marginCharge, premiumAllowed, premiumCharge, numberIn, fenIn}
 use Rattle.rules.specs.Margin.{ratesOf, marginOf}
 use Rattle.rules.specs.Premium.{premiumOf}
-use Rattle.rules.specs.declared.Charge.{Charge}
 use Rattle.rules.specs.declared.Charge.the-variants.{Fen, Refused}
-
-abbrev pub Says : Bool → ℕ → Charge → Type 0
-Says allowed fen charge = (numberIn charge ≡ cond allowed 0 4) × (fenIn charge ≡ cond allowed fen 0)
+use Rattle.demands.specs.Says.{Says}
 
 tested : (allowed : Bool) (fen : ℕ) → Says allowed fen (cond allowed (Fen fen) (Refused OutOfRange))
 unfolding numberIn fenIn

@@ -1,0 +1,3 @@
+-- What the theorems speak of besides the crates' own definitions.
+pub mod Says
+pub mod WorkedCases
