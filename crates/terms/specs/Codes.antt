@@ -35,7 +35,7 @@ kindCode BuyClose = 4
 kindCode CoveredOpen = 5
 kindCode CoveredClose = 6
 
--- how a code is read: as the word of a list that has it, or as not listed
+-- how a code is read: as the word of a list that has it, or as not listed (house)
 abbrev pub coded : {W A : Type 0} → (W → ℕ) → (W → A) → A → List W → ℕ → A
 coded code listed unlisted [] n = unlisted
 coded code listed unlisted (w ∷ ws) n = cond (eqb n (code w)) (listed w) (coded code listed unlisted ws n)

@@ -5,7 +5,7 @@ use Rattle.terms.specs.declared.kind.OrderKind.the-variants.{BuyOpen, Se
 use Rattle.terms.specs.declared.kind.Side.{Side}
 use Rattle.terms.specs.declared.kind.Side.the-variants.{Long, Short, Covered}
 
--- which count of the position does it move?
+-- which count of the position does it move? (house)
 abbrev pub movesOf : OrderKind → Side
 movesOf BuyOpen = Long
 movesOf SellClose = Long
@@ -14,7 +14,7 @@ movesOf BuyClose = Short
 movesOf CoveredOpen = Covered
 movesOf CoveredClose = Covered
 
--- does it open, or close?
+-- does it open, or close? (house)
 abbrev pub opensOf : OrderKind → Bool
 opensOf BuyOpen = true
 opensOf SellClose = false
@@ -23,7 +23,7 @@ opensOf BuyClose = false
 opensOf CoveredOpen = true
 opensOf CoveredClose = false
 
--- does it buy, or sell? A covered open is a sale, a covered close buys it back.
+-- does it buy, or sell? A covered open is a sale, a covered close buys it back. (house)
 abbrev pub buysOf : OrderKind → Bool
 buysOf BuyOpen = true
 buysOf SellClose = false

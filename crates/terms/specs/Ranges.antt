@@ -8,6 +8,7 @@ use Rattle.terms.specs.declared.measure.Measure.the-variants.{Underlying
 
 infix 20 _to_
 infix 15 _∈_
+-- from the least to the most, and what lies there: both ends do (house)
 abbrev pub _to_ : ℕ → ℕ → Range
 least to most = record { 0 = least; 1 = most }
 
@@ -29,6 +30,6 @@ rangeOf UnitsAtOnce = 1 to 1_000_000_000  -- units locked or unlocked at once
 rangeOf Money = 0 to 1_000_000_000_000_000  -- ceiling: cash plus covered premium
 rangeOf LockedUnits = 0 to 2_000_000_000  -- ceiling: locked units of one underlying
 
--- a contract unit is a multiple of 100 besides, so a premium is exact
+-- a contract unit is a multiple of 100 besides, so a premium is exact (house)
 abbrev pub unitAllowed : ℕ → Bool
 unitAllowed unit = (unit ∈ rangeOf Unit) && eqb (unit % 100) 0

@@ -1,8 +1,6 @@
 -- `premium` meets its contract: the two tests decide between the two cases of the definition, and the product of two numbers of 32 bits fits 64.
 use mathlib.Core.Path.{_≡_, _∙_}
 use mathlib.Core.Bool.{_&&_}
-use Prim.Native.Nat.{_^_}
-use native.Mathlib.Nat.{le-pred-of-lt}
 use borrow.Author.Needs.{needs}
 use Rattle.terms.proofs.Product.{product-fits}
 use Rattle.rules.specs.Charges.{premiumAllowed, premiumCharge}
@@ -15,7 +13,7 @@ unfolding premiumAllowed
 tested c = rw (c .before .allows .ensures, c .unit-allowed .ensures)
 
 product : tie.Need-mul-t12
-product c = product-fits _ _ (le-pred-of-lt {m = 2 ^ 32} (search needs)) (le-pred-of-lt {m = 2 ^ 32} (search needs)) tt
+product c = product-fits _ _ (search needs) (search needs)
 
 returns : tie.Need-returns
 unfolding premiumCharge premiumOf
