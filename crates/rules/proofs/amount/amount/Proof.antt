@@ -32,15 +32,16 @@ module _ (q : Rates) (right : Right) (S P K : ℕ) where
   unfolding amountOf outOfTheMoney
   called out sum er eo es = cc
 
-  put : (out sum : ℕ) → right ≡ Put → out ≡ (P less K butAtLeast 0) → sum ≡ (q .r * P less 100 * out butAtLeast q .f * K) → amountOf q right S P K ≡ min (100 * S + sum) (100 * K)
-  unfolding amountOf outOfTheMoney
-  put out sum er eo es = cc
+  module _ (out sum : ℕ) (er : right ≡ Put) (eo : out ≡ (P less K butAtLeast 0)) (es : sum ≡ (q .r * P less 100 * out butAtLeast q .f * K)) where
+    put : amountOf q right S P K ≡ min (100 * S + sum) (100 * K)
+    unfolding amountOf outOfTheMoney
+    put = cc
 
-  put-below : (out sum : ℕ) → right ≡ Put → out ≡ (P less K butAtLeast 0) → sum ≡ (q .r * P less 100 * out butAtLeast q .f * K) → 100 * S + sum < 100 * K → 100 * S + sum ≡ amountOf q right S P K
-  put-below out sum er eo es h = omega (arith, put out sum er eo es)
+    put-below : 100 * S + sum < 100 * K → 100 * S + sum ≡ amountOf q right S P K
+    put-below h = omega (arith, put)
 
-  put-at-cap : (out sum : ℕ) → right ≡ Put → out ≡ (P less K butAtLeast 0) → sum ≡ (q .r * P less 100 * out butAtLeast q .f * K) → 100 * K ≤ 100 * S + sum → 100 * K ≡ amountOf q right S P K
-  put-at-cap out sum er eo es h = omega (arith, put out sum er eo es)
+    put-at-cap : 100 * K ≤ 100 * S + sum → 100 * K ≡ amountOf q right S P K
+    put-at-cap h = omega (arith, put)
 
 returns : tie.Need-returns
 returns c = called _ _ _ _ _ _ _ (c .before .before .enum-told .given .1) (c .before .less .ensures) (c .less2 .ensures)
