@@ -1,9 +1,8 @@
--- Codes go round both ways. A word's code reads back as that word: the reading computes. A code that reads as a word is that word's code: the reading answers only with a word whose code it compared, one law over the words.
-use mathlib.Core.Path.{_≡_, refl, sym, ap, _∙_}
-use mathlib.Core.Bool.{Bool, true, false, cond}
+-- Reading a number by a list of words compares it with each word's code, so it stops at a word that has it or passes them all, whatever is made of the word. Hence a code that reads as a word is that word's code; and a word's code reads back as the word, which computes.
+use mathlib.Core.Path.{_≡_, refl, sym}
+use mathlib.Core.Bool.{Bool, true, false}
 use mathlib.Core.List.{List, [], _∷_}
 use Prim.Native.Nat.{ℕ}
-use native.Mathlib.Omega.{arith}
 use borrow.Author.Tests.{eqb-true}
 use lib.Dec.{eqb}
 use Rattle.terms.specs.Codes.{coded, classCode, classes, classCoded, rightCode, rights, rightCoded, kindCode, kinds, kindCoded}
@@ -17,28 +16,33 @@ use Rattle.terms.specs.declared.kind.OrderKind.{OrderKind}
 use Rattle.terms.specs.declared.kind.OrderKind.the-variants.{BuyOpen, SellClose, SellOpen, BuyClose, CoveredOpen, CoveredClose}
 use Rattle.terms.specs.declared.kind.OrderKindCoded.the-variants as Kind·answer
 
-module _ {W A : Type 0} (code : W → ℕ) (listed : W → A) (unlisted : A) (same : (v w : W) → listed v ≡ listed w → v ≡ w) (apart : (w : W) → unlisted ≡ listed w → ⊥) where
-  by-code : (ws : List W) (n : ℕ) (w : W) → coded code listed unlisted ws n ≡ listed w → code w ≡ n
-  by-code [] n w e = absurd (apart w e)
-  by-code (v ∷ ws) n w e = go (eqb n (code v)) refl e (by-code ws n w)
-    where
-      go : (b : Bool) → eqb n (code v) ≡ b → cond b (listed v) (coded code listed unlisted ws n) ≡ listed w → (coded code listed unlisted ws n ≡ listed w → code w ≡ n) → code w ≡ n
-      go true t e′ later = ap code (sym (same v w e′)) ∙ sym (eqb-true n (code v) t)
-      go false t e′ later = later e′
+-- what a list of words makes of a number, whatever is made of a word: a word whose code it is, or none
+pub data Reads {W : Type 0} (code : W → ℕ) (ws : List W) (n : ℕ) : Type 1 where
+  word : (w : W) → code w ≡ n → ((A : Type 0) (made : W → A) (none : A) → coded code made none ws n ≡ made w) → Reads code ws n
+  unlisted : ((A : Type 0) (made : W → A) (none : A) → coded code made none ws n ≡ none) → Reads code ws n
+
+pub reads : {W : Type 0} (code : W → ℕ) (ws : List W) (n : ℕ) → Reads code ws n
+reads code [] n = unlisted (λ A made none. refl)
+reads code (v ∷ ws) n = go (eqb n (code v)) refl (reads code ws n)
+  where
+    go : (test : Bool) → eqb n (code v) ≡ test → Reads code ws n → Reads code (v ∷ ws) n
+    go true t later = word v (sym (eqb-true n (code v) t)) (λ A made none. rw t)
+    go false t (word w c of) = word w c (λ A made none. rw t (of A made none))
+    go false t (unlisted of) = unlisted (λ A made none. rw t (of A made none))
 
 pub class-read : (w : Class) → classCoded (classCode w) ≡ Class·answer.Listed w
 class-read Stock = refl
 class-read Fund = refl
 
 pub class-coded : (n : ℕ) (w : Class) → classCoded n ≡ Class·answer.Listed w → classCode w ≡ n
-class-coded = by-code classCode Class·answer.Listed Class·answer.Unlisted (λ v w e. cc) (λ w e. let z : _≡_ {A = ℕ} 0 1 = cc in omega arith) classes
+class-coded n w e = elim (reads classCode classes n) [ word v c of ↦ cc (of _ Class·answer.Listed Class·answer.Unlisted) | unlisted of ↦ cc (of _ Class·answer.Listed Class·answer.Unlisted) ]
 
 pub right-read : (w : Right) → rightCoded (rightCode w) ≡ Right·answer.Listed w
 right-read Call = refl
 right-read Put = refl
 
 pub right-coded : (n : ℕ) (w : Right) → rightCoded n ≡ Right·answer.Listed w → rightCode w ≡ n
-right-coded = by-code rightCode Right·answer.Listed Right·answer.Unlisted (λ v w e. cc) (λ w e. let z : _≡_ {A = ℕ} 0 1 = cc in omega arith) rights
+right-coded n w e = elim (reads rightCode rights n) [ word v c of ↦ cc (of _ Right·answer.Listed Right·answer.Unlisted) | unlisted of ↦ cc (of _ Right·answer.Listed Right·answer.Unlisted) ]
 
 pub kind-read : (w : OrderKind) → kindCoded (kindCode w) ≡ Kind·answer.Listed w
 kind-read BuyOpen = refl
@@ -49,4 +53,4 @@ kind-read CoveredOpen = refl
 kind-read CoveredClose = refl
 
 pub kind-coded : (n : ℕ) (w : OrderKind) → kindCoded n ≡ Kind·answer.Listed w → kindCode w ≡ n
-kind-coded = by-code kindCode Kind·answer.Listed Kind·answer.Unlisted (λ v w e. cc) (λ w e. let z : _≡_ {A = ℕ} 0 1 = cc in omega arith) kinds
+kind-coded n w e = elim (reads kindCode kinds n) [ word v c of ↦ cc (of _ Kind·answer.Listed Kind·answer.Unlisted) | unlisted of ↦ cc (of _ Kind·answer.Listed Kind·answer.Unlisted) ]
