@@ -2,7 +2,7 @@
 set -eu
 asks=$(awk '
     FNR == 1 { public = 0 }
-    /^ *(pub )?(extern "C" )?fn / { public = /pub / }
+    /^ *(pub(\([a-z]+\))? )?(extern "C" )?fn / { public = /^ *pub / }
     public && /^ *requires/ { print FILENAME ":" FNR ": " $0 }
 ' $(find crates -name '*.rt'))
 if [ -n "$asks" ]; then

@@ -1,0 +1,31 @@
+-- Allowed counts are within 64 and 8, so a day end is short: the tests of both ranges passed. An entry has as many fields as its kind: each case has its row.
+use mathlib.Core.Path.{_≡_, refl}
+use mathlib.Core.Bool.{true}
+use Prim.Native.Nat.{ℕ, _≤_}
+use lib.ListN.{length}
+use Rattle.terms.specs.Ranges.{rangeOf, _∈_}
+use Rattle.terms.specs.declared.measure.Measure.the-variants.{Contracts, Underlyings}
+use Rattle.terms.proofs.Ranges.{first-holds, second-holds, inside}
+use Rattle.records.specs.Entries.{kindOf, fieldsIn}
+use Rattle.records.specs.Table.{fieldsOf, countsAllowed}
+use Rattle.records.specs.declared.entry.Entry.{Entry}
+use Rattle.records.specs.declared.entry.Entry.the-variants as Entry·of
+
+pub counts-inside : (n m : ℕ) → countsAllowed n m ≡ true → (1 ≤ n) × (n ≤ 64) × (1 ≤ m) × (m ≤ 8)
+counts-inside n m h =
+    let contracts = inside n (rangeOf Contracts) (first-holds (n ∈ rangeOf Contracts) (m ∈ rangeOf Underlyings) h) in
+    let underlyings = inside m (rangeOf Underlyings) (second-holds (n ∈ rangeOf Contracts) (m ∈ rangeOf Underlyings) h) in
+    (contracts .0, contracts .1, underlyings .0, underlyings .1)
+
+pub as-many : (entry : Entry) → length (fieldsIn entry) ≡ length (fieldsOf (kindOf entry))
+as-many (Entry·of.Deposit amount) = refl
+as-many (Entry·of.Withdraw amount) = refl
+as-many (Entry·of.Lock underlying units) = refl
+as-many (Entry·of.Unlock underlying units) = refl
+as-many (Entry·of.Order order) = refl
+as-many (Entry·of.Fill fill) = refl
+as-many (Entry·of.Cancel number) = refl
+as-many (Entry·of.DayEnd n m) = refl
+as-many (Entry·of.Underlying row) = refl
+as-many (Entry·of.Contract row) = refl
+as-many (Entry·of.Opening cash) = refl
