@@ -1,8 +1,13 @@
 -- Each public contract admits one outcome: it says what the result equals, and two results that equal one value are equal.
-use mathlib.Core.Path.{_≡_, _∙_, sym}
+use mathlib.Core.Path.{_≡_, _∙_, sym, ap}
+use denote.Ref.{now}
 use Rattle.rules.proofs.margin.Reads as margin
 use Rattle.rules.proofs.premium.Reads as premium
 use Rattle.rules.proofs.net.Reads as net
+use Rattle.records.specs.Writing.{recordOf, bufferAfter}
+use Rattle.records.specs.declared.writing.Written.{Written}
+use Rattle.records.proofs.read.Reads as read
+use Rattle.records.proofs.write.Reads as write
 
 pub margin-one : (κs : _) (a : _) (r r' : _) (s s' : _) → margin.Post κs a r s → margin.Post κs a r' s' → r ≡ r'
 margin-one κs a r r' s s' p q = p ∙ sym q
@@ -12,3 +17,12 @@ premium-one κs a r r' s s' p q = p ∙ sym q
 
 pub net-one : (κs : _) (a : _) (r r' : _) (s s' : _) → net.Post κs a r s → net.Post κs a r' s' → r ≡ r'
 net-one κs a r r' s s' p q = p ∙ sym q
+
+pub read-one : (κs : _) (a : _) (r r' : _) (s s' : _) → read.Post κs a r s → read.Post κs a r' s' → r ≡ r'
+read-one κs a r r' s s' p q = p ∙ sym q
+
+-- and the lent buffer ends in one way: its contents follow from the answer
+pub write-one : (κs : _) (a : _) (r r' : _) (s s' : _) → write.Post κs a r s → write.Post κs a r' s' → (r ≡ r') × (now (s .1 .1 .0) ≡ now (s' .1 .1 .0))
+write-one κs a r r' s s' p q =
+    let same = p .0 ∙ sym (q .0) in
+    (same, p .1 ∙ ap (λ (w : Written). bufferAfter w (recordOf (a .0) (a .1 .0)) (now (a .1 .1 .0))) same ∙ sym (q .1))

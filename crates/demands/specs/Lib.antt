@@ -1,3 +1,5 @@
 -- What the theorems speak of besides the crates' own definitions.
+pub mod InOrder
+pub mod Records
 pub mod Says
 pub mod WorkedCases

@@ -1,0 +1,51 @@
+-- The refusals of reading and of writing, each as one list in document 01's order and numbers ("Refusal numbers", its last two paragraphs): the first test that holds gives the number.
+use mathlib.Core.Bool.{Bool, true, false, cond, not, _&&_}
+use mathlib.Core.List.{List, [], _∷_}
+use Prim.Native.Nat.{ℕ}
+use lib.Dec.{ltb}
+use lib.ListN.{length}
+use Rattle.records.specs.Entries.{entryOf}
+use Rattle.records.specs.Reading.{lengthAt, kindAt, nAt, mAt, fieldsAt}
+use Rattle.records.specs.Table.{isDayEnd, lengthFits, countsFit}
+use Rattle.records.specs.Writing.{lengthFor, countsBarred}
+use Rattle.records.specs.declared.entry.Entry.{Entry}
+use Rattle.records.specs.declared.entry.EntryCoded.{EntryCoded}
+use Rattle.records.specs.declared.entry.EntryCoded.the-variants as Entry·answer
+use Rattle.records.specs.declared.kind.Kind.{Kind}
+use Rattle.records.specs.declared.kind.KindCoded.{KindCoded}
+use Rattle.records.specs.declared.kind.KindCoded.the-variants as Kind·answer
+
+-- the number of the first test that holds, 0 where none does
+abbrev pub first : List (Bool × ℕ) → ℕ
+first [] = 0
+first (t ∷ ts) = cond (t .0) (t .1) (first ts)
+
+abbrev pub codeUnlisted : EntryCoded → Bool
+codeUnlisted (Entry·answer.Listed entry) = false
+codeUnlisted Entry·answer.Unlisted = true
+
+-- reading a record whose kind is listed
+abbrev pub kindTests : List ℕ → Kind → List (Bool × ℕ)
+kindTests r kind =
+    (not (lengthFits kind (lengthAt r)), 3)  -- "then a length that can't fit 3"
+    ∷ (isDayEnd kind && ltb (length r) 8, 1)  -- "kind 8 with fewer than 8 bytes 1"
+    ∷ (isDayEnd kind && not (countsFit (nAt r) (mAt r) (lengthAt r)), 3)  -- "its counts out of range or unlike the length 3"
+    ∷ (ltb (length r) (lengthAt r), 1)  -- "fewer bytes than the length 1"
+    ∷ (codeUnlisted (entryOf kind (fieldsAt kind r)), 3)  -- "codes 3"
+    ∷ []
+
+-- "then 2"
+abbrev pub kindOrNone : List ℕ → KindCoded → List (Bool × ℕ)
+kindOrNone r (Kind·answer.Listed kind) = kindTests r kind
+kindOrNone r Kind·answer.Unlisted = (true, 2) ∷ []
+
+-- reading, of the bytes from the place on: "fewer than 4 bytes 1"
+abbrev pub readingTests : List ℕ → List (Bool × ℕ)
+readingTests r = (ltb (length r) 4, 1) ∷ kindOrNone r (kindAt r)
+
+-- writing, into a buffer of a size
+abbrev pub writingTests : Entry → ℕ → List (Bool × ℕ)
+writingTests entry size =
+    (countsBarred entry, 3)  -- "a day end with n or m out of range 3"
+    ∷ (ltb size (lengthFor entry), 17)  -- "then 17"
+    ∷ []
