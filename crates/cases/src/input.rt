@@ -1,6 +1,10 @@
-// Lines, and the numbers in them: a line is a word and then numbers, a space before each.
+// Lines, and what stands in them: a line is a word and then its fields, a space before each.
 ghost use Prim.Native.Nat.{_≤_, max};
 ghost use lib.ListN.{length};
+ghost use Rattle.io.specs.Counts.{Counts};
+
+// How many bytes an example can lend: more than the 296 of the longest record, so that something can stand around one.
+pub const LENT: usize = 320;
 
 // Where the line that starts at `from` ends.
 pub fn line_end(s: &[u8], from: usize) -> usize
@@ -16,8 +20,56 @@ pub fn line_end(s: &[u8], from: usize) -> usize
     at
 }
 
-// The k-th number of a line, counted from 1, to seventeen digits.
+// The k-th field of a line, counted from 1, as a decimal number.
 pub fn field(l: &[u8], k: usize) -> u64 {
+    digits(l, k, false)
+}
+
+pub fn word(l: &[u8], k: usize) -> u32 {
+    (field(l, k) % 4_294_967_296) as u32
+}
+
+// The k-th field as a hexadecimal number: these show each byte of a record by itself.
+pub fn hex(l: &[u8], k: usize) -> u64 {
+    digits(l, k, true)
+}
+
+pub fn hex4(l: &[u8], k: usize) -> u16 {
+    (hex(l, k) % 65_536) as u16
+}
+
+pub fn hex8(l: &[u8], k: usize) -> u32 {
+    (hex(l, k) % 4_294_967_296) as u32
+}
+
+// The bytes that a line's last field spells, two digits each; how many there are.
+pub fn bytes(l: &[u8], into: &mut [u8; LENT]) -> usize
+    ensures { λ r. ⌜ Counts r (now (into .exit)) ⌝ }
+{
+    let mut at = 0;
+    let mut laid = 0;
+    while at < l.len() {
+        laid = lay(into, laid, l[at]);
+        at += 1;
+    }
+    io::count((laid / 2) as isize, into)
+}
+
+// One more digit; at a space all begins again, so that the last field stays.
+fn lay(into: &mut [u8; LENT], laid: usize, b: u8) -> usize
+    ensures { λ r. ⌜ r ≤ 640 ⌝ }
+{
+    if b == b' ' {
+        return 0;
+    }
+    if laid >= 2 * LENT {
+        return 2 * LENT;
+    }
+    into[laid / 2] = into[laid / 2] % 16 * 16 + digit(b);
+    laid + 1
+}
+
+fn digits(l: &[u8], k: usize, hexadecimal: bool) -> u64 {
     let mut at = 0;
     let mut spaces = 0;
     let mut value: u64 = 0;
@@ -25,21 +77,26 @@ pub fn field(l: &[u8], k: usize) -> u64 {
         if l[at] == b' ' {
             spaces += 1;
         } else if spaces == k {
-            value = digit_after(value, l[at]);
+            value = digit_after(value, l[at], hexadecimal);
         }
         at += 1;
     }
     value
 }
 
-fn digit_after(value: u64, b: u8) -> u64 {
-    if value < 10_000_000_000_000_000 {
-        value * 10 + (b % 16) as u64
-    } else {
+// Below 2^60 there is room for one more digit of either kind.
+fn digit_after(value: u64, b: u8, hexadecimal: bool) -> u64 {
+    if value >= 1_152_921_504_606_846_976 {
         value
+    } else if hexadecimal {
+        value * 16 + digit(b) as u64
+    } else {
+        value * 10 + digit(b) as u64
     }
 }
 
-pub fn word(l: &[u8], k: usize) -> u32 {
-    (field(l, k) % 4_294_967_296) as u32
+fn digit(b: u8) -> u8
+    ensures { λ r. ⌜ r ≤ 15 ⌝ }
+{
+    if b < b'a' { b % 16 } else { (b % 16 + 9) % 16 }
 }

@@ -1,8 +1,13 @@
 // Runs the examples of standard input, a line each, through the compiled functions, and writes each line again with '=' and what came out.
+mod asked;
 mod charges;
+mod codes;
+mod found;
 mod input;
 mod output;
 mod ranges;
+mod reading;
+mod writing;
 
 use output::text;
 
@@ -21,17 +26,28 @@ fn run(s: &[u8]) {
     }
 }
 
-// A line's first letter says what it asks; any other line is a remark.
+// A line that begins with '#' is a remark.
 fn line(l: &[u8]) {
     text(l);
     if 0 < l.len() {
-        match l[0] {
-            b'm' => charges::margin(l),
-            b'p' => charges::premium(l),
-            b'n' => charges::net(l),
-            b'a' => ranges::allowed(l),
-            _ => (),
+        if l[0] != b'#' {
+            text(b" =");
+            answer(l, l[0]);
         }
     }
     text(b"\n");
+}
+
+// A line's first letter says what it asks.
+fn answer(l: &[u8], letter: u8) {
+    match letter {
+        b'm' => charges::margin(l),
+        b'p' => charges::premium(l),
+        b'n' => charges::net(l),
+        b'a' => ranges::allowed(l),
+        b'r' => reading::read(l),
+        b'c' => reading::cuts(l),
+        b'w' => writing::write(l),
+        _ => (),
+    }
 }

@@ -1,5 +1,6 @@
 // What is written to standard output.
 use libc::STDOUT_FILENO;
+use terms::Refusal;
 
 pub fn text(bytes: &[u8]) {
     io::write_all(STDOUT_FILENO, bytes);
@@ -8,4 +9,49 @@ pub fn text(bytes: &[u8]) {
 pub fn number(n: u64) {
     text(b" ");
     io::print_decimal(STDOUT_FILENO, n);
+}
+
+pub fn refused(why: Refusal) {
+    text(b" refused");
+    number(why.number() as u64);
+}
+
+// A number at the whole width of its type, as a record has it.
+pub fn hex16(n: u64) {
+    hex(n, 16);
+}
+
+pub fn hex8(n: u32) {
+    hex(n as u64, 8);
+}
+
+pub fn hex4(n: u16) {
+    hex(n as u64, 4);
+}
+
+fn hex(n: u64, digits: usize) {
+    text(b" ");
+    io::print_hex(STDOUT_FILENO, n, digits);
+}
+
+// Bytes, two digits each; a dash where there is none.
+pub fn bytes(s: &[u8]) {
+    if s.len() == 0 {
+        text(b" -");
+    } else {
+        text(b" ");
+        each(s);
+    }
+}
+
+fn each(s: &[u8]) {
+    let mut i = 0;
+    while i < s.len() {
+        byte(s[i]);
+        i += 1;
+    }
+}
+
+fn byte(b: u8) {
+    io::print_hex(STDOUT_FILENO, b as u64, 2);
 }

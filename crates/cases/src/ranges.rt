@@ -1,7 +1,6 @@
 // The ranges: a measure by its number, a value, and 1 where the value is allowed.
 use crate::input::field;
 use crate::output::number;
-use crate::output::text;
 use terms::Measure;
 
 fn measure(n: u64) -> Measure {
@@ -25,7 +24,6 @@ fn measure(n: u64) -> Measure {
 pub fn allowed(l: &[u8]) {
     let of = field(l, 1);
     let value = field(l, 2);
-    text(b" =");
     if of == 13 {
         number(terms::unit_allowed(value) as u64);
     } else {
