@@ -26,7 +26,7 @@ use Rattle.records.specs.declared.reading.Answer.the-variants.{Refused}
 use Rattle.records.specs.declared.reading.Reading.{Reading}
 use Rattle.records.specs.declared.writing.Written.{Written}
 use Rattle.records.specs.declared.writing.Written.the-variants as Written·of
-use Rattle.demands.specs.InOrder.{first, codeUnlisted, kindTests, kindOrNone, readingTests, writingTests}
+use Rattle.demands.specs.InOrder.{first, codeUnlisted, readingTests, writingTests}
 
 number : Reading → ℕ
 number read = reading.numberIn (read .answer)
@@ -52,7 +52,7 @@ module _ (place : ℕ) where
     unfolding number
     other-told kind = refused-first (not (lengthFits kind (lengthAt r))) Misshapen 3 _ _ refl (of-any kind noFigures)
 
-    kind-told : (kind : Kind) → number (ofKind place r kind) ≡ first (kindTests r kind)
+    kind-told : (kind : Kind) → number (ofKind place r kind) ≡ first (drop 2 (readingTests r (Kind·answer.Listed kind)))
     unfolding number ofKind counted
     kind-told Deposit = other-told Deposit
     kind-told Withdraw = other-told Withdraw
@@ -69,11 +69,11 @@ module _ (place : ℕ) where
     kind-told Contract = other-told Contract
     kind-told Opening = other-told Opening
 
-    told : number (readFrom place r) ≡ first (readingTests r)
+    told : number (readFrom place r) ≡ first (readingTests r (kindAt r))
     unfolding number readFrom
     told = refused-first (ltb (length r) 4) CutShort 1 _ _ refl (by-kind (kindAt r))
       where
-        by-kind : (kind : KindCoded) → number (listed place r kind) ≡ first (kindOrNone r kind)
+        by-kind : (kind : KindCoded) → number (listed place r kind) ≡ first (drop 1 (readingTests r kind))
         by-kind (Kind·answer.Listed kind) = kind-told kind
         by-kind Kind·answer.Unlisted = refl
 
@@ -116,7 +116,7 @@ module _ (place : ℕ) where
         by-kind (Kind·answer.Listed kind) = kind-here kind
         by-kind Kind·answer.Unlisted = refused-here UnknownKind
 
-pub read-number : (s : List ℕ) (place : ℕ) → reading.numberIn (readAt s place .answer) ≡ first (readingTests (drop place s))
+pub read-number : (s : List ℕ) (place : ℕ) → reading.numberIn (readAt s place .answer) ≡ first (readingTests (drop place s) (kindAt (drop place s)))
 unfolding readAt number
 read-number s place = told place (drop place s)
 

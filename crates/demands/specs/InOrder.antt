@@ -5,7 +5,7 @@ use Prim.Native.Nat.{ℕ}
 use lib.Dec.{ltb}
 use lib.ListN.{length}
 use Rattle.records.specs.Entries.{entryOf}
-use Rattle.records.specs.Reading.{lengthAt, kindAt, nAt, mAt, fieldsAt}
+use Rattle.records.specs.Reading.{lengthAt, nAt, mAt, fieldsAt}
 use Rattle.records.specs.Table.{isDayEnd, lengthFits, countsFit}
 use Rattle.records.specs.Writing.{lengthFor, countsBarred}
 use Rattle.records.specs.declared.entry.Entry.{Entry}
@@ -24,24 +24,26 @@ abbrev pub codeUnlisted : EntryCoded → Bool
 codeUnlisted (Entry·answer.Listed entry) = false
 codeUnlisted Entry·answer.Unlisted = true
 
--- reading a record whose kind is listed
-abbrev pub kindTests : List ℕ → Kind → List (Bool × ℕ)
-kindTests r kind =
-    (not (lengthFits kind (lengthAt r)), 3)  -- "then a length that can't fit 3"
-    ∷ (isDayEnd kind && ltb (length r) 8, 1)  -- "kind 8 with fewer than 8 bytes 1"
-    ∷ (isDayEnd kind && not (countsFit (nAt r) (mAt r) (lengthAt r)), 3)  -- "its counts out of range or unlike the length 3"
+abbrev pub kindUnlisted : KindCoded → Bool
+kindUnlisted (Kind·answer.Listed kind) = false
+kindUnlisted Kind·answer.Unlisted = true
+
+-- a question about the kind; one that is not listed has been refused before it is asked
+abbrev pub asked : KindCoded → (Kind → Bool) → Bool
+asked (Kind·answer.Listed kind) question = question kind
+asked Kind·answer.Unlisted question = false
+
+-- reading, of the bytes from the place on and the kind that they say
+abbrev pub readingTests : List ℕ → KindCoded → List (Bool × ℕ)
+readingTests r said =
+    (ltb (length r) 4, 1)  -- "fewer than 4 bytes 1"
+    ∷ (kindUnlisted said, 2)  -- "then 2"
+    ∷ (asked said (λ kind. not (lengthFits kind (lengthAt r))), 3)  -- "then a length that can't fit 3"
+    ∷ (asked said (λ kind. isDayEnd kind && ltb (length r) 8), 1)  -- "kind 8 with fewer than 8 bytes 1"
+    ∷ (asked said (λ kind. isDayEnd kind && not (countsFit (nAt r) (mAt r) (lengthAt r))), 3)  -- "its counts out of range or unlike the length 3"
     ∷ (ltb (length r) (lengthAt r), 1)  -- "fewer bytes than the length 1"
-    ∷ (codeUnlisted (entryOf kind (fieldsAt kind r)), 3)  -- "codes 3"
+    ∷ (asked said (λ kind. codeUnlisted (entryOf kind (fieldsAt kind r))), 3)  -- "codes 3"
     ∷ []
-
--- "then 2"
-abbrev pub kindOrNone : List ℕ → KindCoded → List (Bool × ℕ)
-kindOrNone r (Kind·answer.Listed kind) = kindTests r kind
-kindOrNone r Kind·answer.Unlisted = (true, 2) ∷ []
-
--- reading, of the bytes from the place on: "fewer than 4 bytes 1"
-abbrev pub readingTests : List ℕ → List (Bool × ℕ)
-readingTests r = (ltb (length r) 4, 1) ∷ kindOrNone r (kindAt r)
 
 -- writing, into a buffer of a size
 abbrev pub writingTests : Entry → ℕ → List (Bool × ℕ)
