@@ -17,7 +17,7 @@ use Rattle.records.specs.Entries.{kindOf, fieldsIn, _!_, orderOf, underlyingOf,
 use Rattle.records.specs.Numbers.{numberAt, numbersAt, total}
 use Rattle.records.specs.Reading.{lengthAt, kindAt, nAt, mAt, fieldsAt, figuresAt, refused, _at_when_else_, known, wholeAt, counted, ofKind, listed, readFrom, readAt}
 use Rattle.records.specs.Table.{codeOf, fieldsOf, isDayEnd, figuresOf, lengthOf, countsAllowed, lengthFits, countsFit, kindCoded, kinds as recordKinds}
-use Rattle.records.specs.Writing.{nOf, mOf, lengthFor, headOf, recordOf, countsBarred}
+use Rattle.records.specs.Writing.{lengthFor, headOf, recordOf, countsBarred}
 use Rattle.records.specs.declared.entry.Entry.{Entry}
 use Rattle.records.specs.declared.entry.EntryCoded.{EntryCoded}
 use Rattle.records.specs.declared.entry.EntryCoded.the-variants.{Listed, Unlisted}
@@ -107,7 +107,8 @@ record Whole (r : List ℕ) (kind : Kind) (entry : Entry) (len : ℕ) : Type 0 w
 module _ (r : List ℕ) (lent : AreBytes r) {kind : Kind} {entry : Entry} {len : ℕ} (w : Whole r kind entry len) where
   head-same : lengthFor entry ≡ len → headOf entry ≡ take (total (2 ∷ 2 ∷ fieldsOf kind)) r
   head-same exact =
-      let long : lengthOf kind (nOf entry) (mOf entry) ≡ len = rw (w .kind-same) at exact in
+      let within : total (2 ∷ 2 ∷ fieldsOf (kindOf entry)) ≤ len = omega (arith, exact) in
+      let there : total (2 ∷ 2 ∷ fieldsOf kind) ≤ len = rw (w .kind-same) at within in
       let head = packed-numbers r lent (2 ∷ 2 ∷ fieldsOf kind) 0 (omega arith) in
       rw (exact, ← w .named, w .kind-same, w .code, w .fields-same) head
 

@@ -1,5 +1,5 @@
 -- A record reads back as the entry that was written: the numbers of its head are packed, so they read back, and they pass reading's tests; so do a day end's figures behind them. Hence bytes tell entries apart: reading has one answer, and it says where the record ends.
-use mathlib.Core.Path.{_≡_, refl, sym, ap, _∙_}
+use mathlib.Core.Path.{_≡_, refl, sym, ap, _∙_, subst}
 use mathlib.Core.Bool.{Bool, true, false, cond}
 use mathlib.Core.List.{List, [], _∷_, _++_, append-assoc}
 use Prim.Native.Nat.{ℕ, zero, suc, _+_, _^_, _≤_, _<_}
@@ -167,7 +167,7 @@ readable entry f typed unbarred = go (isDayEnd (kindOf entry)) refl
     go : (day : Bool) → isDayEnd (kindOf entry) ≡ day → Readable entry f
     go true day =
         let typed' : Typed (DayEnd (nOf entry) (mOf entry)) f = rw (day-end entry day) typed in
-        let allowed : countsAllowed (nOf entry) (mOf entry) ≡ true = not-false _ (rw day at unbarred) in
+        let allowed : countsAllowed (nOf entry) (mOf entry) ≡ true = not-false _ (subst (λ (e : Entry). countsBarred e ≡ false) (sym (day-end entry day)) unbarred) in
         rw (day-end entry day) at (day-end-readable (nOf entry) (mOf entry) f typed' allowed)
     go false other = other-readable entry f other
 

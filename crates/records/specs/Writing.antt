@@ -14,12 +14,12 @@ use Rattle.records.specs.declared.entry.Figures.{Figures}
 use Rattle.records.specs.declared.writing.Written.{Written}
 use Rattle.records.specs.declared.writing.Written.the-variants.{Bytes, Refused}
 
--- a day end's counts are its two fields; no other kind is asked for them (house)
+-- n and m are a day end's two fields; no other entry has figures (house)
 abbrev pub nOf : Entry → ℕ
-nOf entry = fieldsIn entry ! 0
+nOf entry = cond (isDayEnd (kindOf entry)) (fieldsIn entry ! 0) 0
 
 abbrev pub mOf : Entry → ℕ
-mOf entry = fieldsIn entry ! 1
+mOf entry = cond (isDayEnd (kindOf entry)) (fieldsIn entry ! 1) 0
 
 -- how long an entry's record is (house)
 abbrev pub lengthFor : Entry → ℕ

@@ -41,7 +41,7 @@ impl Kind {
         }
     }
 
-    pub fn coded(code: u16) -> KindCoded
+    pub(crate) fn coded(code: u16) -> KindCoded
         ensures { λ r. ⌜ r ≡ kindCoded code ⌝ }
     {
         match code {
@@ -60,14 +60,14 @@ impl Kind {
         }
     }
 
-    pub fn is_day_end(self) -> bool
+    pub(crate) fn is_day_end(self) -> bool
         ensures { λ r. ⌜ r ≡ isDayEnd self ⌝ }
     {
         self.code() == 8
     }
 
     // The length of the record without a day end's figures.
-    pub fn length(self) -> u16
+    pub(crate) fn length(self) -> u16
         ensures { λ r. ⌜ r ≡ lengthOf self 0 0 ⌝ }
     {
         match self {
@@ -86,7 +86,7 @@ impl Kind {
     }
 
     // Whether a record of the kind can be this long.
-    pub fn fits(self, length: u16) -> bool
+    pub(crate) fn fits(self, length: u16) -> bool
         ensures { λ r. ⌜ r ≡ lengthFits self length ⌝ }
     {
         if self.is_day_end() {

@@ -13,7 +13,6 @@ pub use entry::Fill;
 pub use entry::Order;
 pub use entry::Underlying;
 pub use kind::Kind;
-pub use kind::KindCoded;
 pub use reading::Answer;
 pub use reading::Reading;
 pub use reading::read;

@@ -166,7 +166,7 @@ fn fields(r: &[u8], kind: Kind) -> EntryCoded
 }
 
 fn order(r: &[u8]) -> EntryCoded
-    requires { ⌜ 20 ≤ length (now r) ⌝ }
+    requires { ⌜ lengthOf Kind.Order 0 0 ≤ length (now r) ⌝ }
     ensures { λ e. ⌜ e ≡ entryOf Kind.Order (fieldsAt Kind.Order (now (r .entry))) ⌝ }
 {
     let OrderKindCoded::Listed(kind) = OrderKind::coded(number2(r, 10)) else {
@@ -182,7 +182,7 @@ fn order(r: &[u8]) -> EntryCoded
 }
 
 fn underlying(r: &[u8]) -> EntryCoded
-    requires { ⌜ 16 ≤ length (now r) ⌝ }
+    requires { ⌜ lengthOf Kind.Underlying 0 0 ≤ length (now r) ⌝ }
     ensures { λ e. ⌜ e ≡ entryOf Kind.Underlying (fieldsAt Kind.Underlying (now (r .entry))) ⌝ }
 {
     let ClassCoded::Listed(class) = Class::coded(number2(r, 4)) else {
@@ -198,7 +198,7 @@ fn underlying(r: &[u8]) -> EntryCoded
 }
 
 fn contract(r: &[u8]) -> EntryCoded
-    requires { ⌜ 20 ≤ length (now r) ⌝ }
+    requires { ⌜ lengthOf Kind.Contract 0 0 ≤ length (now r) ⌝ }
     ensures { λ e. ⌜ e ≡ entryOf Kind.Contract (fieldsAt Kind.Contract (now (r .entry))) ⌝ }
 {
     let RightCoded::Listed(right) = Right::coded(number2(r, 6)) else {

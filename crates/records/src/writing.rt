@@ -87,16 +87,17 @@ fn put_fields(buffer: &mut [u8], entry: Entry)
     }
 }
 
+// Locks and unlocks have the same fields.
 fn put_pair(buffer: &mut [u8], underlying: u16, units: u32)
-    requires { ⌜ 10 ≤ length (now buffer) ⌝ }
-    ensures { λ _. ⌜ now (buffer .exit) ≡ sets (now (buffer .entry)) 4 (packed (2 ∷ 4 ∷ []) (underlying ∷ units ∷ [])) ⌝ }
+    requires { ⌜ lengthOf Kind.Lock 0 0 ≤ length (now buffer) ⌝ }
+    ensures { λ _. ⌜ now (buffer .exit) ≡ sets (now (buffer .entry)) 4 (packed (fieldsOf Kind.Lock) (underlying ∷ units ∷ [])) ⌝ }
 {
     put2(buffer, 4, underlying);
     put4(buffer, 6, units);
 }
 
 fn put_order(buffer: &mut [u8], order: Order)
-    requires { ⌜ 20 ≤ length (now buffer) ⌝ }
+    requires { ⌜ lengthOf Kind.Order 0 0 ≤ length (now buffer) ⌝ }
     ensures { λ _. ⌜ now (buffer .exit) ≡ sets (now (buffer .entry)) 4 (packed (fieldsOf Kind.Order) (fieldsIn (Entry.Order order))) ⌝ }
 {
     let kind = order.kind;
@@ -108,7 +109,7 @@ fn put_order(buffer: &mut [u8], order: Order)
 }
 
 fn put_underlying(buffer: &mut [u8], row: Underlying)
-    requires { ⌜ 16 ≤ length (now buffer) ⌝ }
+    requires { ⌜ lengthOf Kind.Underlying 0 0 ≤ length (now buffer) ⌝ }
     ensures { λ _. ⌜ now (buffer .exit) ≡ sets (now (buffer .entry)) 4 (packed (fieldsOf Kind.Underlying) (fieldsIn (Entry.Underlying row))) ⌝ }
 {
     let class = row.class;
@@ -120,7 +121,7 @@ fn put_underlying(buffer: &mut [u8], row: Underlying)
 }
 
 fn put_contract(buffer: &mut [u8], row: Contract)
-    requires { ⌜ 20 ≤ length (now buffer) ⌝ }
+    requires { ⌜ lengthOf Kind.Contract 0 0 ≤ length (now buffer) ⌝ }
     ensures { λ _. ⌜ now (buffer .exit) ≡ sets (now (buffer .entry)) 4 (packed (fieldsOf Kind.Contract) (fieldsIn (Entry.Contract row))) ⌝ }
 {
     let right = row.right;

@@ -1,21 +1,17 @@
 -- `fields` meets its contract: in each arm the kind is known, its record is long enough for each field, and each field is the number at its place.
-use mathlib.Core.Path.{_≡_, sym, ap, _∙_, subst}
+use mathlib.Core.Path.{_≡_, sym, ap, _∙_}
 use mathlib.Core.List.{List}
-use Prim.Native.Nat.{ℕ, _≤_}
-use native.Mathlib.Nat.{le-trans}
+use Prim.Native.Nat.{ℕ}
 use borrow.Author.Needs.{needs}
 use Rattle.records.specs.Entries.{entryOf}
 use Rattle.records.specs.Reading.{fieldsAt}
-use Rattle.records.specs.Table.{lengthOf}
 use Rattle.records.specs.declared.entry.Entry.the-variants.{Deposit, Withdraw, Lock, Unlock, Fill, Cancel, DayEnd, Opening}
 use Rattle.records.specs.declared.entry.EntryCoded.{EntryCoded}
 use Rattle.records.specs.declared.entry.EntryCoded.the-variants.{Listed}
 use Rattle.records.specs.declared.kind.Kind.{Kind}
+use Rattle.records.proofs.Limits.{within}
 use Rattle.records.proofs.reading.fields.Statement.{statement}
 use Rattle.records.proofs.reading.fields.Tie as tie
-
-within : (kind k : Kind) (to size : ℕ) → kind ≡ k → lengthOf kind 0 0 ≤ size → to ≤ lengthOf k 0 0 → to ≤ size
-within kind k to size e room h = le-trans h (subst (λ (k : Kind). lengthOf k 0 0 ≤ size) e room)
 
 of-kind : (kind k : Kind) (r : List ℕ) (read : EntryCoded) → kind ≡ k → read ≡ entryOf k (fieldsAt k r) → read ≡ entryOf kind (fieldsAt kind r)
 of-kind kind k r read e is = is ∙ sym (ap (λ (k : Kind). entryOf k (fieldsAt k r)) e)

@@ -1,20 +1,17 @@
 -- `put_fields` meets its contract: in each arm the entry is known, its record has room for each field, and the fields are put one after the other.
-use mathlib.Core.Path.{_≡_, sym, ap, _∙_, subst}
+use mathlib.Core.Path.{_≡_, sym, ap, _∙_}
 use mathlib.Core.List.{List, [], _∷_}
-use Prim.Native.Nat.{ℕ, _≤_}
-use native.Mathlib.Nat.{le-trans}
+use Prim.Native.Nat.{ℕ}
 use borrow.Author.Needs.{needs}
 use lib.Seq.{sets}
 use Rattle.records.specs.Entries.{kindOf, fieldsIn}
 use Rattle.records.specs.Numbers.{packed}
-use Rattle.records.specs.Table.{fieldsOf, lengthOf}
+use Rattle.records.specs.Table.{fieldsOf}
 use Rattle.records.specs.declared.entry.Entry.{Entry}
 use Rattle.records.proofs.Runs.{stored}
+use Rattle.records.proofs.Limits.{within}
 use Rattle.records.proofs.writing.put_fields.Statement.{statement}
 use Rattle.records.proofs.writing.put_fields.Tie as tie
-
-within : (entry e : Entry) (to size : ℕ) → entry ≡ e → lengthOf (kindOf entry) 0 0 ≤ size → to ≤ lengthOf (kindOf e) 0 0 → to ≤ size
-within entry e to size is room h = le-trans h (subst (λ (e : Entry). lengthOf (kindOf e) 0 0 ≤ size) is room)
 
 of-case : (entry e : Entry) (l d : List ℕ) → entry ≡ e → d ≡ sets l 4 (packed (fieldsOf (kindOf e)) (fieldsIn e)) → d ≡ sets l 4 (packed (fieldsOf (kindOf entry)) (fieldsIn entry))
 of-case entry e l d is put = put ∙ sym (ap (λ (e : Entry). sets l 4 (packed (fieldsOf (kindOf e)) (fieldsIn e))) is)
@@ -24,30 +21,30 @@ put-fields-spec =
     tie.close
     (tie.spec
     (λ c. search needs)
-    (λ c κs. within _ _ _ _ (c .before .before .entry .given .1) (c .before .before .before .before .before .pre) (search needs))
+    (λ c κs. within _ _ _ _ (ap kindOf (c .before .before .entry .given .1)) (c .before .before .before .before .before .pre) (search needs))
     (λ c. search needs)
-    (λ c κs. within _ _ _ _ (c .before .before .entry2 .given .1) (c .before .before .before .before .before .pre) (search needs))
+    (λ c κs. within _ _ _ _ (ap kindOf (c .before .before .entry2 .given .1)) (c .before .before .before .before .before .pre) (search needs))
     (λ c. search needs)
-    (λ c κs. within _ _ _ _ (c .before .before .entry3 .given .1) (c .before .before .before .before .before .pre) (search needs))
+    (λ c κs. within _ _ _ _ (ap kindOf (c .before .before .entry3 .given .1)) (c .before .before .before .before .before .pre) (search needs))
     (λ c. search needs)
-    (λ c κs. within _ _ _ _ (c .before .before .entry4 .given .1) (c .before .before .before .before .before .pre) (search needs))
+    (λ c κs. within _ _ _ _ (ap kindOf (c .before .before .entry4 .given .1)) (c .before .before .before .before .before .pre) (search needs))
     (λ c. search needs)
-    (λ c κs. within _ _ _ _ (c .before .before .entry5 .given .1) (c .before .before .before .before .before .pre) (search needs))
+    (λ c κs. within _ _ _ _ (ap kindOf (c .before .before .entry5 .given .1)) (c .before .before .before .before .before .pre) (search needs))
     (λ c. search needs)
-    (λ c κs. within _ _ _ _ (c .before .before .entry6 .given .1) (c .before .before .before .before .before .pre) (search needs))
-    (λ c κs. let room = within _ _ 12 _ (c .before .before .before .before .before .before .entry6 .given .1) (c .before .before .before .before .before .before .before .before .before .pre) (search needs) in search needs)
-    (λ c κs. let room = within _ _ 16 _ (c .before .before .before .before .before .before .before .before .before .before .entry6 .given .1) (c .before .before .before .before .before .before .before .before .before .before .before .before .before .pre) (search needs) in search needs)
+    (λ c κs. within _ _ _ _ (ap kindOf (c .before .before .entry6 .given .1)) (c .before .before .before .before .before .pre) (search needs))
+    (λ c κs. let room = within _ _ 12 _ (ap kindOf (c .before .before .before .before .before .before .entry6 .given .1)) (c .before .before .before .before .before .before .before .before .before .pre) (search needs) in search needs)
+    (λ c κs. let room = within _ _ 16 _ (ap kindOf (c .before .before .before .before .before .before .before .before .before .before .entry6 .given .1)) (c .before .before .before .before .before .before .before .before .before .before .before .before .before .pre) (search needs) in search needs)
     (λ c. search needs)
-    (λ c κs. within _ _ _ _ (c .before .before .entry7 .given .1) (c .before .before .before .before .before .pre) (search needs))
+    (λ c κs. within _ _ _ _ (ap kindOf (c .before .before .entry7 .given .1)) (c .before .before .before .before .before .pre) (search needs))
     (λ c. search needs)
-    (λ c κs. within _ _ _ _ (c .before .before .entry8 .given .1) (c .before .before .before .before .before .pre) (search needs))
-    (λ c κs. let room = within _ _ 8 _ (c .before .before .before .before .before .before .entry8 .given .1) (c .before .before .before .before .before .before .before .before .before .pre) (search needs) in search needs)
+    (λ c κs. within _ _ _ _ (ap kindOf (c .before .before .entry8 .given .1)) (c .before .before .before .before .before .pre) (search needs))
+    (λ c κs. let room = within _ _ 8 _ (ap kindOf (c .before .before .before .before .before .before .entry8 .given .1)) (c .before .before .before .before .before .before .before .before .before .pre) (search needs) in search needs)
     (λ c. search needs)
-    (λ c κs. within _ _ _ _ (c .before .before .entry9 .given .1) (c .before .before .before .before .before .pre) (search needs))
+    (λ c κs. within _ _ _ _ (ap kindOf (c .before .before .entry9 .given .1)) (c .before .before .before .before .before .pre) (search needs))
     (λ c. search needs)
-    (λ c κs. within _ _ _ _ (c .before .before .entry10 .given .1) (c .before .before .before .before .before .pre) (search needs))
+    (λ c κs. within _ _ _ _ (ap kindOf (c .before .before .entry10 .given .1)) (c .before .before .before .before .before .pre) (search needs))
     (λ c. search needs)
-    (λ c κs. within _ _ _ _ (c .before .before .entry11 .given .1) (c .before .before .before .before .before .pre) (search needs))
+    (λ c κs. within _ _ _ _ (ap kindOf (c .before .before .entry11 .given .1)) (c .before .before .before .before .before .pre) (search needs))
     (λ c. search needs)
     (λ c. of-case _ _ _ _ (c .before .before .before .before .before .entry .given .1) (rw (c .before .before .put8 .ensures) (stored (8 ∷ []) (_ ∷ []) 4 _)))
     (λ c. search needs)
