@@ -6,12 +6,12 @@ use crate::input::field;
 use crate::input::hex;
 use crate::input::hex4;
 use crate::input::hex8;
-use records::Contract;
-use records::Entry;
-use records::Figures;
-use records::Fill;
-use records::Order;
-use records::Underlying;
+use entries::Contract;
+use entries::Entry;
+use entries::Figures;
+use entries::Fill;
+use entries::Order;
+use entries::Underlying;
 
 pub fn entry(l: &[u8]) -> Entry {
     match field(l, 2) {

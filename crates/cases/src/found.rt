@@ -3,12 +3,12 @@ use crate::output::hex4;
 use crate::output::hex8;
 use crate::output::hex16;
 use crate::output::number;
-use records::Contract;
-use records::Entry;
-use records::Figures;
-use records::Fill;
-use records::Order;
-use records::Underlying;
+use entries::Contract;
+use entries::Entry;
+use entries::Figures;
+use entries::Fill;
+use entries::Order;
+use entries::Underlying;
 
 pub fn show(entry: Entry, length: usize, figures: Figures) {
     number(entry.kind().code() as u64);

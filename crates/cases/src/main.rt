@@ -6,8 +6,8 @@ mod found;
 mod input;
 mod output;
 mod ranges;
-mod reading;
-mod writing;
+mod reads;
+mod writes;
 
 use output::text;
 
@@ -45,9 +45,9 @@ fn answer(l: &[u8], letter: u8) {
         b'p' => charges::premium(l),
         b'n' => charges::net(l),
         b'a' => ranges::allowed(l),
-        b'r' => reading::read(l),
-        b'c' => reading::cuts(l),
-        b'w' => writing::write(l),
+        b'r' => reads::read(l),
+        b'c' => reads::cuts(l),
+        b'w' => writes::write(l),
         _ => (),
     }
 }

@@ -10,10 +10,10 @@ use Rattle.terms.specs.Ranges.{rangeOf, _to_, _∈_}
 use Rattle.terms.specs.declared.measure.Measure.the-variants.{Contracts, Underlyings}
 use Rattle.terms.specs.declared.measure.Range.{Range}
 use Rattle.terms.proofs.Ranges.{first-holds, second-holds, inside}
-use Rattle.records.specs.Table.{lengthOf, countsAllowed, lengthFits}
-use Rattle.records.specs.declared.kind.Kind.the-variants.{DayEnd}
-use Rattle.records.proofs.Limits.{counts-inside}
-use Rattle.records.proofs.Runs.{total-fours}
+use Rattle.entries.specs.Table.{lengthOf, countsAllowed, lengthFits}
+use Rattle.entries.specs.declared.kind.Kind.the-variants.{DayEnd}
+use Rattle.entries.proofs.Limits.{counts-inside}
+use Rattle.entries.proofs.Runs.{total-fours}
 
 within : (x : ℕ) (range : Range) → range .0 ≤ x → x ≤ range .1 → (x ∈ range) ≡ true
 within x range from till = rw (le-leb _ _ from, le-leb _ _ till)

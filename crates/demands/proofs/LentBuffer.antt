@@ -7,13 +7,13 @@ use native.Mathlib.Nat.{le-trans, le-of-eq}
 use borrow.Author.Tests.{le-ltb}
 use lib.ListN.{length, take, drop}
 use Rattle.terms.specs.declared.refusal.Refusal.the-variants.{Misshapen, BufferTooShort}
-use Rattle.records.specs.Reading.{readAt}
-use Rattle.records.specs.Writing.{lengthFor, recordOf, countsBarred, writtenFor, bufferAfter}
-use Rattle.records.specs.declared.entry.Entry.{Entry}
-use Rattle.records.specs.declared.entry.Figures.{Figures}
-use Rattle.records.specs.declared.reading.Answer.the-variants.{Found}
-use Rattle.records.specs.declared.writing.Written.{Written}
-use Rattle.records.specs.declared.writing.Written.the-variants.{Bytes, Refused}
+use Rattle.entries.specs.declared.entry.Entry.{Entry}
+use Rattle.entries.specs.declared.entry.Figures.{Figures}
+use Rattle.reading.specs.Reading.{readAt}
+use Rattle.reading.specs.declared.Answer.the-variants.{Found}
+use Rattle.writing.specs.Writing.{lengthFor, recordOf, countsBarred, writtenFor, bufferAfter}
+use Rattle.writing.specs.declared.Written.{Written}
+use Rattle.writing.specs.declared.Written.the-variants.{Bytes, Refused}
 use Rattle.demands.specs.Records.{AreBytes, Typed, figuresKept}
 use Rattle.demands.proofs.ReadWritten.{read-written, read-accepted}
 use Rattle.demands.proofs.WrittenRead.{written-read}

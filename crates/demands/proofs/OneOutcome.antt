@@ -4,10 +4,10 @@ use denote.Ref.{now}
 use Rattle.rules.proofs.margin.Reads as margin
 use Rattle.rules.proofs.premium.Reads as premium
 use Rattle.rules.proofs.net.Reads as net
-use Rattle.records.specs.Writing.{recordOf, bufferAfter}
-use Rattle.records.specs.declared.writing.Written.{Written}
-use Rattle.records.proofs.read.Reads as read
-use Rattle.records.proofs.write.Reads as write
+use Rattle.reading.proofs.read.Reads as read
+use Rattle.writing.specs.Writing.{recordOf, bufferAfter}
+use Rattle.writing.specs.declared.Written.{Written}
+use Rattle.writing.proofs.write.Reads as write
 
 pub margin-one : (κs : _) (a : _) (r r' : _) (s s' : _) → margin.Post κs a r s → margin.Post κs a r' s' → r ≡ r'
 margin-one κs a r r' s s' p q = p ∙ sym q

@@ -4,9 +4,9 @@ use mathlib.Core.List.{List, [], _∷_, _++_, append-assoc}
 use Prim.Native.Nat.{ℕ, suc, _+_}
 use lib.ListN.{length, length-append}
 use lib.Seq.{take-at, drop-at}
-use Rattle.records.specs.Numbers.{bytes, numberAt, numbersAt, packed, total}
-use Rattle.records.proofs.LittleEndian.{value-bytes, length-bytes}
-use Rattle.records.proofs.Runs.{length-packed}
+use Rattle.entries.specs.Numbers.{bytes, numberAt, numbersAt, packed, total}
+use Rattle.entries.proofs.LittleEndian.{value-bytes, length-bytes}
+use Rattle.entries.proofs.Runs.{length-packed}
 use Rattle.demands.specs.Records.{Fit}
 
 pub packed-read : (ws xs before after : List ℕ) (place : ℕ) → length before ≡ place → Fit ws xs → numbersAt ws (before ++ (packed ws xs ++ after)) place ≡ xs

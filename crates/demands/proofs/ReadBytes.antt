@@ -6,7 +6,7 @@ use native.Mathlib.Nat.{lt-of-lt-of-le, pow-suc, pow-le-pow-right}
 use native.Mathlib.Omega.{arith}
 use lib.ListN.{length, take, drop, length-take, length-drop}
 use lib.Seq.{take-add, drop-drop}
-use Rattle.records.specs.Numbers.{bytes, value, numberAt, numbersAt, packed, total}
+use Rattle.entries.specs.Numbers.{bytes, value, numberAt, numbersAt, packed, total}
 use Rattle.demands.specs.Records.{Below, AreBytes, Fit}
 
 pub below-take : (bound n : ℕ) (s : List ℕ) → Below bound s → Below bound (take n s)

@@ -13,25 +13,25 @@ use Rattle.terms.specs.declared.refusal.Refusal.{Refusal}
 use Rattle.terms.specs.declared.refusal.Refusal.the-variants.{CutShort, Misshapen}
 use Rattle.terms.proofs.Codes.{word, unlisted, reads}
 use Rattle.terms.proofs.Ranges.{first-holds, second-holds}
-use Rattle.records.specs.Entries.{kindOf, fieldsIn, _!_, orderOf, underlyingOf, contractOf, entryOf, figuresIn, figuresFrom, noFigures}
-use Rattle.records.specs.Numbers.{numberAt, numbersAt, total}
-use Rattle.records.specs.Reading.{lengthAt, kindAt, nAt, mAt, fieldsAt, figuresAt, refused, _at_when_else_, known, wholeAt, counted, ofKind, listed, readFrom, readAt}
-use Rattle.records.specs.Table.{codeOf, fieldsOf, isDayEnd, figuresOf, lengthOf, countsAllowed, lengthFits, countsFit, kindCoded, kinds as recordKinds}
-use Rattle.records.specs.Writing.{lengthFor, headOf, recordOf, countsBarred}
-use Rattle.records.specs.declared.entry.Entry.{Entry}
-use Rattle.records.specs.declared.entry.EntryCoded.{EntryCoded}
-use Rattle.records.specs.declared.entry.EntryCoded.the-variants.{Listed, Unlisted}
-use Rattle.records.specs.declared.entry.Figures.{Figures}
-use Rattle.records.specs.declared.kind.Kind.{Kind}
-use Rattle.records.specs.declared.kind.Kind.the-variants.{Deposit, Withdraw, Lock, Unlock, Order, Fill, Cancel, DayEnd, Underlying, Contract, Opening}
-use Rattle.records.specs.declared.kind.KindCoded.{KindCoded}
-use Rattle.records.specs.declared.kind.KindCoded.the-variants as Kind·answer
-use Rattle.records.specs.declared.reading.Answer.{Answer}
-use Rattle.records.specs.declared.reading.Answer.the-variants.{Found}
-use Rattle.records.specs.declared.reading.Reading.{Reading}
-use Rattle.records.proofs.Runs.{length-numbers}
+use Rattle.entries.specs.Entries.{kindOf, fieldsIn, _!_, orderOf, underlyingOf, contractOf, entryOf, figuresIn, figuresFrom, noFigures}
+use Rattle.entries.specs.Numbers.{numberAt, numbersAt, total}
+use Rattle.entries.specs.Table.{codeOf, fieldsOf, isDayEnd, figuresOf, lengthOf, countsAllowed, lengthFits, countsFit, kindCoded, kinds as recordKinds}
+use Rattle.entries.specs.declared.entry.Entry.{Entry}
+use Rattle.entries.specs.declared.entry.EntryCoded.{EntryCoded}
+use Rattle.entries.specs.declared.entry.EntryCoded.the-variants.{Listed, Unlisted}
+use Rattle.entries.specs.declared.entry.Figures.{Figures}
+use Rattle.entries.specs.declared.kind.Kind.{Kind}
+use Rattle.entries.specs.declared.kind.Kind.the-variants.{Deposit, Withdraw, Lock, Unlock, Order, Fill, Cancel, DayEnd, Underlying, Contract, Opening}
+use Rattle.entries.specs.declared.kind.KindCoded.{KindCoded}
+use Rattle.entries.specs.declared.kind.KindCoded.the-variants as Kind·answer
+use Rattle.entries.proofs.Runs.{length-numbers}
+use Rattle.entries.proofs.Limits.{counts-inside}
+use Rattle.reading.specs.Reading.{lengthAt, kindAt, nAt, mAt, fieldsAt, figuresAt, refused, _at_when_else_, known, wholeAt, counted, ofKind, listed, readFrom, readAt}
+use Rattle.reading.specs.declared.Answer.{Answer}
+use Rattle.reading.specs.declared.Answer.the-variants.{Found}
+use Rattle.reading.specs.declared.Reading.{Reading}
+use Rattle.writing.specs.Writing.{lengthFor, headOf, recordOf, countsBarred}
 use Rattle.demands.specs.Records.{Below, AreBytes, Fit, Typed}
-use Rattle.records.proofs.Limits.{counts-inside}
 use Rattle.demands.proofs.ReadBytes.{below-take, below-drop, packed-numbers, numbers-fit}
 
 -- an entry that was read of a code was read of a word that has it

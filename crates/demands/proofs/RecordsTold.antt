@@ -8,24 +8,24 @@ use lib.Dec.{ltb}
 use lib.ListN.{length, drop}
 use Rattle.terms.specs.declared.refusal.Refusal.{Refusal}
 use Rattle.terms.specs.declared.refusal.Refusal.the-variants.{CutShort, UnknownKind, Misshapen, BufferTooShort}
-use Rattle.records.specs.Entries.{entryOf, noFigures}
-use Rattle.records.specs.Reading as reading
-use Rattle.records.specs.Reading.{lengthAt, kindAt, nAt, mAt, fieldsAt, figuresAt, refused, known, wholeAt, counted, ofKind, listed, readFrom, readAt}
-use Rattle.records.specs.Table.{isDayEnd, lengthFits, countsFit}
-use Rattle.records.specs.Writing as writing
-use Rattle.records.specs.Writing.{lengthFor, countsBarred, writtenFor, bufferAfter}
-use Rattle.records.specs.declared.entry.Entry.{Entry}
-use Rattle.records.specs.declared.entry.EntryCoded.{EntryCoded}
-use Rattle.records.specs.declared.entry.EntryCoded.the-variants as Entry·answer
-use Rattle.records.specs.declared.entry.Figures.{Figures}
-use Rattle.records.specs.declared.kind.Kind.{Kind}
-use Rattle.records.specs.declared.kind.Kind.the-variants.{Deposit, Withdraw, Lock, Unlock, Order, Fill, Cancel, DayEnd, Underlying, Contract, Opening}
-use Rattle.records.specs.declared.kind.KindCoded.{KindCoded}
-use Rattle.records.specs.declared.kind.KindCoded.the-variants as Kind·answer
-use Rattle.records.specs.declared.reading.Answer.the-variants.{Refused}
-use Rattle.records.specs.declared.reading.Reading.{Reading}
-use Rattle.records.specs.declared.writing.Written.{Written}
-use Rattle.records.specs.declared.writing.Written.the-variants as Written·of
+use Rattle.entries.specs.Entries.{entryOf, noFigures}
+use Rattle.entries.specs.Table.{isDayEnd, lengthFits, countsFit}
+use Rattle.entries.specs.declared.entry.Entry.{Entry}
+use Rattle.entries.specs.declared.entry.EntryCoded.{EntryCoded}
+use Rattle.entries.specs.declared.entry.EntryCoded.the-variants as Entry·answer
+use Rattle.entries.specs.declared.entry.Figures.{Figures}
+use Rattle.entries.specs.declared.kind.Kind.{Kind}
+use Rattle.entries.specs.declared.kind.Kind.the-variants.{Deposit, Withdraw, Lock, Unlock, Order, Fill, Cancel, DayEnd, Underlying, Contract, Opening}
+use Rattle.entries.specs.declared.kind.KindCoded.{KindCoded}
+use Rattle.entries.specs.declared.kind.KindCoded.the-variants as Kind·answer
+use Rattle.reading.specs.Reading as reading
+use Rattle.reading.specs.Reading.{lengthAt, kindAt, nAt, mAt, fieldsAt, figuresAt, refused, known, wholeAt, counted, ofKind, listed, readFrom, readAt}
+use Rattle.reading.specs.declared.Answer.the-variants.{Refused}
+use Rattle.reading.specs.declared.Reading.{Reading}
+use Rattle.writing.specs.Writing as writing
+use Rattle.writing.specs.Writing.{lengthFor, countsBarred, writtenFor, bufferAfter}
+use Rattle.writing.specs.declared.Written.{Written}
+use Rattle.writing.specs.declared.Written.the-variants as Written·of
 use Rattle.demands.specs.InOrder.{first, codeUnlisted, readingTests, writingTests}
 
 number : Reading → ℕ

@@ -5,10 +5,10 @@ use Prim.Native.Nat.{ℕ, _+_}
 use native.Mathlib.Omega.{arith}
 use lib.ListN.{length, take, drop, length-drop, take-append-drop}
 use lib.Seq.{length-take-le, take-add}
-use Rattle.records.specs.Reading.{readAt}
-use Rattle.records.specs.Writing.{recordOf, lengthFor}
-use Rattle.records.specs.declared.entry.Entry.{Entry}
-use Rattle.records.specs.declared.reading.Answer.the-variants.{Found}
+use Rattle.entries.specs.declared.entry.Entry.{Entry}
+use Rattle.reading.specs.Reading.{readAt}
+use Rattle.reading.specs.declared.Answer.the-variants.{Found}
+use Rattle.writing.specs.Writing.{recordOf, lengthFor}
 use Rattle.demands.specs.Records.{AreBytes, figuresKept}
 use Rattle.demands.proofs.ReadWritten.{read-written, read-accepted, read-typed}
 use Rattle.demands.proofs.WrittenRead.{written-read}

@@ -10,23 +10,23 @@ use lib.ListN.{length, take, drop, replicate, length-append, replicate-append-re
 use lib.Seq.{drop-at, drop-append-seam, length-take-le}
 use Rattle.terms.specs.Codes.{classCode, rightCode, kindCode}
 use Rattle.terms.proofs.Codes.{class-read, right-read, kind-read}
-use Rattle.records.specs.Entries.{kindOf, fieldsIn, orderOf, underlyingOf, contractOf, entryOf, figuresIn, figuresFrom, noFigures}
-use Rattle.records.specs.Numbers.{numbersAt, packed, total}
-use Rattle.records.specs.Reading.{lengthAt, kindAt, nAt, mAt, fieldsAt, wholeAt, counted, ofKind, readFrom, readAt}
-use Rattle.records.specs.Table.{codeOf, kindCoded, fieldsOf, isDayEnd, figuresOf, lengthFits, countsFit, countsAllowed}
-use Rattle.records.specs.Writing.{nOf, mOf, lengthFor, headOf, recordOf, countsBarred}
-use Rattle.records.specs.declared.entry.Entry.{Entry}
-use Rattle.records.specs.declared.entry.Entry.the-variants.{Deposit, Withdraw, Lock, Unlock, Order, Fill, Cancel, DayEnd, Underlying, Contract, Opening}
-use Rattle.records.specs.declared.entry.EntryCoded.the-variants.{Listed, Unlisted}
-use Rattle.records.specs.declared.entry.Figures.{Figures}
-use Rattle.records.specs.declared.kind.Kind.{Kind}
-use Rattle.records.specs.declared.kind.Kind.the-variants as Kind·of
-use Rattle.records.specs.declared.kind.KindCoded.the-variants as Kind·answer
-use Rattle.records.specs.declared.reading.Answer.the-variants.{Found}
-use Rattle.records.specs.declared.reading.Reading.{Reading}
-use Rattle.records.proofs.Limits.{counts-inside}
-use Rattle.records.proofs.Runs.{total-fours, length-packed}
-use Rattle.records.proofs.Words.{class-word, right-word, kind-word}
+use Rattle.entries.specs.Entries.{kindOf, fieldsIn, orderOf, underlyingOf, contractOf, entryOf, figuresIn, figuresFrom, noFigures}
+use Rattle.entries.specs.Numbers.{numbersAt, packed, total}
+use Rattle.entries.specs.Table.{codeOf, kindCoded, fieldsOf, isDayEnd, figuresOf, lengthFits, countsFit, countsAllowed}
+use Rattle.entries.specs.declared.entry.Entry.{Entry}
+use Rattle.entries.specs.declared.entry.Entry.the-variants.{Deposit, Withdraw, Lock, Unlock, Order, Fill, Cancel, DayEnd, Underlying, Contract, Opening}
+use Rattle.entries.specs.declared.entry.EntryCoded.the-variants.{Listed, Unlisted}
+use Rattle.entries.specs.declared.entry.Figures.{Figures}
+use Rattle.entries.specs.declared.kind.Kind.{Kind}
+use Rattle.entries.specs.declared.kind.Kind.the-variants as Kind·of
+use Rattle.entries.specs.declared.kind.KindCoded.the-variants as Kind·answer
+use Rattle.entries.proofs.Limits.{counts-inside}
+use Rattle.entries.proofs.Runs.{total-fours, length-packed}
+use Rattle.reading.specs.Reading.{lengthAt, kindAt, nAt, mAt, fieldsAt, wholeAt, counted, ofKind, readFrom, readAt}
+use Rattle.reading.specs.declared.Answer.the-variants.{Found}
+use Rattle.reading.specs.declared.Reading.{Reading}
+use Rattle.reading.proofs.Words.{class-word, right-word, kind-word}
+use Rattle.writing.specs.Writing.{nOf, mOf, lengthFor, headOf, recordOf, countsBarred}
 use Rattle.demands.specs.Records.{Below, Fit, Typed, figuresKept}
 use Rattle.demands.proofs.DayEndLengths.{day-end-lengths}
 use Rattle.demands.proofs.Packing.{packed-read, packed-length}

@@ -4,16 +4,16 @@ use mathlib.Core.List.{List, [], _∷_}
 use Prim.Native.Nat.{ℕ}
 use lib.Dec.{ltb}
 use lib.ListN.{length}
-use Rattle.records.specs.Entries.{entryOf}
-use Rattle.records.specs.Reading.{lengthAt, nAt, mAt, fieldsAt}
-use Rattle.records.specs.Table.{isDayEnd, lengthFits, countsFit}
-use Rattle.records.specs.Writing.{lengthFor, countsBarred}
-use Rattle.records.specs.declared.entry.Entry.{Entry}
-use Rattle.records.specs.declared.entry.EntryCoded.{EntryCoded}
-use Rattle.records.specs.declared.entry.EntryCoded.the-variants as Entry·answer
-use Rattle.records.specs.declared.kind.Kind.{Kind}
-use Rattle.records.specs.declared.kind.KindCoded.{KindCoded}
-use Rattle.records.specs.declared.kind.KindCoded.the-variants as Kind·answer
+use Rattle.entries.specs.Entries.{entryOf}
+use Rattle.entries.specs.Table.{isDayEnd, lengthFits, countsFit}
+use Rattle.entries.specs.declared.entry.Entry.{Entry}
+use Rattle.entries.specs.declared.entry.EntryCoded.{EntryCoded}
+use Rattle.entries.specs.declared.entry.EntryCoded.the-variants as Entry·answer
+use Rattle.entries.specs.declared.kind.Kind.{Kind}
+use Rattle.entries.specs.declared.kind.KindCoded.{KindCoded}
+use Rattle.entries.specs.declared.kind.KindCoded.the-variants as Kind·answer
+use Rattle.reading.specs.Reading.{lengthAt, nAt, mAt, fieldsAt}
+use Rattle.writing.specs.Writing.{lengthFor, countsBarred}
 
 -- the number of the first test that holds, 0 where none does
 abbrev pub first : List (Bool × ℕ) → ℕ

@@ -4,11 +4,11 @@ use mathlib.Core.Bool.{cond}
 use mathlib.Core.List.{List, [], _∷_}
 use Prim.Native.Nat.{ℕ, _^_, _<_}
 use lib.ListN.{length}
-use Rattle.records.specs.Entries.{kindOf, fieldsIn, figuresIn, figuresFrom, noFigures}
-use Rattle.records.specs.Table.{fieldsOf, isDayEnd}
-use Rattle.records.specs.Writing.{nOf, mOf}
-use Rattle.records.specs.declared.entry.Entry.{Entry}
-use Rattle.records.specs.declared.entry.Figures.{Figures}
+use Rattle.entries.specs.Entries.{kindOf, fieldsIn, figuresIn, figuresFrom, noFigures}
+use Rattle.entries.specs.Table.{fieldsOf, isDayEnd}
+use Rattle.entries.specs.declared.entry.Entry.{Entry}
+use Rattle.entries.specs.declared.entry.Figures.{Figures}
+use Rattle.writing.specs.Writing.{nOf, mOf}
 
 -- numbers that are below a bound, one and all
 abbrev pub Below : ℕ → List ℕ → Type 0

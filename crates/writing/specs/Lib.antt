@@ -1,0 +1,2 @@
+-- Writing records, as document 01's "Records" and "Refusal numbers" state it.
+pub mod Writing
