@@ -2,10 +2,13 @@
 pub mod DayEndLengths
 pub mod LentBuffer
 pub mod OneOutcome
+pub mod OrderToo
+pub mod OrdersTold
 pub mod Packing
 pub mod ReadBytes
 pub mod ReadWritten
 pub mod RecordsTold
+pub mod Stepped
 pub mod Told
 pub mod WhatFollows
 pub mod WorkedCases

@@ -1,4 +1,4 @@
--- Each public contract admits one outcome: it says what the result equals, and two results that equal one value are equal.
+-- Each public contract admits one outcome, and so do those of the steps on an account: it says what the result equals, and two results that equal one value are equal.
 use mathlib.Core.Path.{_≡_, _∙_, sym, ap}
 use denote.Ref.{now}
 use Rattle.rules.proofs.margin.Reads as margin
@@ -8,6 +8,9 @@ use Rattle.reading.proofs.read.Reads as read
 use Rattle.writing.specs.Writing.{recordOf, bufferAfter}
 use Rattle.writing.specs.declared.Written.{Written}
 use Rattle.writing.proofs.write.Reads as write
+use Rattle.gathering.proofs.gather.Reads as gather
+use Rattle.orders.proofs.decide.Reads as decide
+use Rattle.orders.proofs.book_order.Reads as book-order
 
 pub margin-one : (κs : _) (a : _) (r r' : _) (s s' : _) → margin.Post κs a r s → margin.Post κs a r' s' → r ≡ r'
 margin-one κs a r r' s s' p q = p ∙ sym q
@@ -26,3 +29,12 @@ pub write-one : (κs : _) (a : _) (r r' : _) (s s' : _) → write.Post κs a r s
 write-one κs a r r' s s' p q =
     let same = p .0 ∙ sym (q .0) in
     (same, p .1 ∙ ap (λ (w : Written). bufferAfter w (recordOf (a .0) (a .1 .0)) (now (a .1 .1 .0))) same ∙ sym (q .1))
+
+pub gather-one : (κs : _) (a : _) (r r' : _) (s s' : _) → gather.Post κs a r s → gather.Post κs a r' s' → r ≡ r'
+gather-one κs a r r' s s' p q = p ∙ sym q
+
+pub decide-one : (κs : _) (a : _) (r r' : _) (s s' : _) → decide.Post κs a r s → decide.Post κs a r' s' → r ≡ r'
+decide-one κs a r r' s s' p q = p ∙ sym q
+
+pub book-order-one : (κs : _) (a : _) (r r' : _) (s s' : _) → book-order.Post κs a r s → book-order.Post κs a r' s' → r ≡ r'
+book-order-one κs a r r' s s' p q = p ∙ sym q

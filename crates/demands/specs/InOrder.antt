@@ -1,19 +1,25 @@
--- The refusals of reading and of writing, each as one list in document 01's order and numbers ("Refusal numbers", its last two paragraphs): the first test that holds gives the number.
+-- The refusals of reading, of writing and of an order, each as one list in document 01's order and numbers ("Refusal numbers", its table and last paragraphs): the first test that holds gives the number.
 use mathlib.Core.Bool.{Bool, true, false, cond, not, _&&_}
 use mathlib.Core.List.{List, [], _∷_}
-use Prim.Native.Nat.{ℕ}
-use lib.Dec.{ltb}
+use Prim.Native.Nat.{ℕ, _+_}
+use lib.Dec.{leb, ltb}
+use lib.IntN.{pos}
 use lib.ListN.{length}
+use lib.Signed.{leZ}
+use Rattle.terms.specs.Codes.{kindCode}
 use Rattle.entries.specs.Entries.{entryOf}
 use Rattle.entries.specs.Table.{isDayEnd, lengthFits, countsFit}
 use Rattle.entries.specs.declared.entry.Entry.{Entry}
 use Rattle.entries.specs.declared.entry.EntryCoded.{EntryCoded}
 use Rattle.entries.specs.declared.entry.EntryCoded.the-variants as Entry·answer
+use Rattle.entries.specs.declared.entry.Order.{Order}
 use Rattle.entries.specs.declared.kind.Kind.{Kind}
 use Rattle.entries.specs.declared.kind.KindCoded.{KindCoded}
 use Rattle.entries.specs.declared.kind.KindCoded.the-variants as Kind·answer
 use Rattle.reading.specs.Reading.{lengthAt, nAt, mAt, fieldsAt}
 use Rattle.writing.specs.Writing.{lengthFor, countsBarred}
+use Rattle.account.specs.Checks.{member}
+use Rattle.account.specs.declared.judged.Facts.{Facts}
 
 -- the number of the first test that holds, 0 where none does
 abbrev pub first : List (Bool × ℕ) → ℕ
@@ -50,4 +56,22 @@ abbrev pub writingTests : Entry → ℕ → List (Bool × ℕ)
 writingTests entry size =
     (countsBarred entry, 3)  -- "a day end with n or m out of range 3"
     ∷ (ltb size (lengthFor entry), 17)  -- "then 17"
+    ∷ []
+
+-- is an order of one of the kinds?
+abbrev pub among : Order → List ℕ → Bool
+among o kinds = member (kindCode (o .kind)) kinds
+
+-- an order, by its facts: the kinds that meet a test, and when it fails
+abbrev pub orderTests : Facts → Order → List (Bool × ℕ)
+orderTests f o =
+    (among o (1 ∷ 2 ∷ 3 ∷ 4 ∷ 5 ∷ 6 ∷ []) && not (f .allowed), 4)  -- "a value outside its range, number not in the tables, covered kind on a put"
+    ∷ (among o (1 ∷ 2 ∷ 3 ∷ 4 ∷ 5 ∷ 6 ∷ []) && not (ltb (f .last) (o .number)), 6)  -- "order number not above the last accepted"
+    ∷ (among o (1 ∷ 2 ∷ 3 ∷ 4 ∷ 5 ∷ 6 ∷ []) && not (ltb (f .place) 32), 8)  -- "32 orders resting"
+    ∷ (among o (2 ∷ 4 ∷ 6 ∷ []) && not (leb (f .closing .0 + o .quantity) (f .position .0)), 9)  -- "position too small to close"
+    ∷ (among o (1 ∷ []) && not (leb (f .rights .0 + o .quantity) (f .limits .rights)), 10)  -- "rights .. limit passed"
+    ∷ (among o (1 ∷ 3 ∷ 5 ∷ []) && not (leb (f .total .0 + o .quantity) (f .limits .total)), 11)  -- "total .. limit passed"
+    ∷ (among o (1 ∷ []) && not (leb (f .holding .bought .0 + o .quantity) (f .limits .daily)), 12)  -- "daily limit passed"
+    ∷ (among o (5 ∷ []) && not (leb (f .needed .0) (f .spare .0)), 13)  -- "spare units too few"
+    ∷ (among o (1 ∷ 3 ∷ 4 ∷ 6 ∷ []) && not (leZ (pos (f .hold)) (f .available)), 14)  -- "hold .. greater than available"
     ∷ []

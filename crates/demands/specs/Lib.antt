@@ -1,5 +1,6 @@
 -- What the theorems speak of besides the crates' own definitions.
 pub mod InOrder
 pub mod Records
+pub mod Richer
 pub mod Says
 pub mod WorkedCases

@@ -1,0 +1,121 @@
+-- A cancel takes all that is left of one order, so each total over the orders falls by that order's own term and no limit is passed. Its hold was among the holds and its remainder among what was counted today, so both can be taken off; the positions stay.
+use mathlib.Core.Path.{_≡_, refl, sym, ap, _∙_}
+use mathlib.Core.Bool.{and-true}
+use Prim.Native.Nat.{ℕ, _-_, _≤_, _<_}
+use native.Mathlib.Nat.{le-refl}
+use native.Mathlib.Omega.{arith}
+use borrow.Author.Tests.{ltb-true, eq-eqb}
+use lib.Dec.{ltb}
+use lib.ListN.{set, length-set}
+use lib.Seq.{set-out}
+use Rattle.terms.specs.Kinds.{movesOf}
+use Rattle.terms.specs.declared.kind.OrderKind.the-variants.{BuyOpen}
+use Rattle.terms.specs.declared.kind.Side.{Side}
+use Rattle.terms.specs.declared.kind.Side.the-variants.{Long, Short, Covered}
+use Rattle.terms.specs.declared.refusal.Refusal.the-variants.{NoSuchOrder}
+use Rattle.account.specs.Changes.{applied}
+use Rattle.account.specs.Fills.{placeOf, named, orderAfter, cancelVerdict, cancelChange}
+use Rattle.account.specs.Rows.{free, noHolding, noPosition, contract, underlying, position, holding, order}
+use Rattle.account.specs.Sound.{Sound, asOrder}
+use Rattle.account.specs.Sums.{_when_}
+use Rattle.account.specs.Totals.{countOf, countIn, isKind, isOpen, restingIn, rightsIn, totalIn}
+use Rattle.account.specs.declared.account.Account.{Account}
+use Rattle.account.specs.declared.account.Holding.{Holding}
+use Rattle.account.specs.declared.account.Resting.{Resting}
+use Rattle.account.specs.declared.judged.Verdict.the-variants.{Accepted}
+use Rattle.account.specs.declared.tables.Tables.{Tables}
+use Rattle.account.proofs.Allowed.{underlying-known}
+use Rattle.account.proofs.Holdings.{each-holding}
+use Rattle.account.proofs.Kept.{count-kept, margin-kept, covered-kept}
+use Rattle.account.proofs.Passed.{went-on}
+use Rattle.account.proofs.Taken.{found, Takes, resting-order, resting-taken, closing-taken, reserved-taken, holds-taken, places-taken, distinct-taken}
+
+-- an order of which all is taken gives up its place
+all-taken : (r : Resting) → orderAfter r (r .left .0) ≡ free
+all-taken r = rw (eq-eqb (r .left .0) (r .left .0) refl)
+
+module _ (t : Tables) (a : Account) (number : ℕ) (s : Sound t a) (there : placeOf a number < 32) where
+  abbrev after : Account
+  after = applied a (cancelChange (named t a number))
+
+  abbrev r : Resting
+  r = order a (placeOf a number)
+
+  abbrev under : ℕ
+  under = contract t (r .contract) .underlying
+
+  pub taken : Takes t a after (placeOf a number) (r .left .0)
+  unfolding applied cancelChange named
+  taken =
+      record {
+        sound = s;
+        put = record { rows = s .orderRows; within = there; orders = ap (set (a .orders) (placeOf a number)) (sym (all-taken r)) };
+        some = found a number there;
+        enough = le-refl (r .left .0);
+      }
+
+  positions-after : after .positions ≡ a .positions
+  unfolding applied cancelChange named
+  positions-after = set-out (a .positions) 64 noPosition (omega (arith, s .positionRows))
+
+  count-after : (side : Side) (u : ℕ) → countIn side t after u ≡ countIn side t a u
+  count-after = count-kept t a after positions-after
+
+  position-after : (c : ℕ) → position after c ≡ position a c
+  position-after c = rw positions-after
+
+  pub known : under < t .m
+  known = underlying-known t (asOrder r) (resting-order taken .allowed) (s .tables)
+
+  -- today's count of its underlying with the remainder taken off, where it is a buy open
+  abbrev remaining : Holding
+  remaining = record { locked = holding a under .locked; bought = record { 0 = holding a under .bought .0 - (r .left .0 when isKind BuyOpen (r .kind)) } }
+
+  each : (P : Holding → Type 0) (u : ℕ) → (under ≡ u → P remaining) → P (holding a u) → P (holding after u)
+  unfolding applied cancelChange named
+  each = each-holding t a s under known remaining
+
+  locked-after : (u : ℕ) → holding after u .locked .0 ≡ holding a u .locked .0
+  locked-after u = each (λ h. h .locked .0 ≡ holding a u .locked .0) u (ap (λ k. holding a k .locked .0)) refl
+
+  counted-after : (u : ℕ) → u < t .m → restingIn (isKind BuyOpen) t after u ≤ holding after u .bought .0
+  counted-after u h =
+      let rests = resting-taken taken (isKind BuyOpen) u in
+      let here : under ≡ u → restingIn (isKind BuyOpen) t after u ≤ remaining .bought .0 =
+      λ e.
+      let own = rw (eq-eqb under u e, and-true) at rests in
+      omega (arith, own, s .counted u h, ap (λ k. holding a k .bought .0) e) in
+      each (λ h. restingIn (isKind BuyOpen) t after u ≤ h .bought .0) u here (omega (arith, rests, s .counted u h))
+
+  daily-after : (u : ℕ) → u < t .m → holding after u .bought .0 ≤ underlying t u .daily
+  daily-after u h = each (λ h. h .bought .0 ≤ underlying t u .daily) u (λ e. omega (arith, s .daily u h, ap (λ k. holding a k .bought .0) e)) (s .daily u h)
+
+  after-sound : Sound t after
+  unfolding applied cancelChange named rightsIn totalIn
+  after-sound =
+      record {
+        tables = s .tables;
+        positionRows = length-set (a .positions) 64 noPosition ∙ s .positionRows;
+        orderRows = length-set (a .orders) (placeOf a number) free ∙ s .orderRows;
+        holdingRows = length-set (a .holdings) under _ ∙ s .holdingRows;
+        ceiling = s .ceiling;
+        holds = omega (arith, s .holds, holds-taken taken);
+        margin = s .margin ∙ sym (margin-kept t a after positions-after);
+        rights = λ u h. omega (arith, s .rights u h, count-after Long u, resting-taken taken (isKind BuyOpen) u);
+        total = λ u h. omega (arith, s .total u h, count-after Long u, count-after Short u, count-after Covered u, resting-taken taken isOpen u);
+        counted = counted-after;
+        daily = daily-after;
+        closes = λ kind close c. omega (arith, s .closes kind close c, closing-taken taken kind c, ap (countOf (movesOf kind)) (position-after c));
+        units = λ u h. omega (arith, s .units u h, covered-kept t a after positions-after u, reserved-taken taken u, locked-after u);
+        locked = λ u h. rw (locked-after u) (s .locked u h);
+        calls = λ c put. rw (position-after c) (s .calls c put);
+        emptied = λ i h. places-taken taken i h .0;
+        resting = λ i h. places-taken taken i h .1;
+        distinct = distinct-taken taken;
+        noMorePositions = λ c h. position-after c ∙ s .noMorePositions c h;
+        noMoreHoldings = λ u h. each (_≡ noHolding) u (λ e. absurd (omega (arith, e, known, h))) (s .noMoreHoldings u h);
+      }
+
+pub cancel-sound : (t : Tables) (a : Account) (number : ℕ) → Sound t a → cancelVerdict (named t a number) ≡ Accepted → Sound t (applied a (cancelChange (named t a number)))
+unfolding cancelVerdict named
+cancel-sound t a number s e = after-sound t a number s (ltb-true (placeOf a number) 32 (went-on (ltb (placeOf a number) 32) NoSuchOrder Accepted e .0))

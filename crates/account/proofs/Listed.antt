@@ -1,0 +1,39 @@
+-- What is made or tested number by number is so at each number: by induction on how many there are, the last being made or tested last.
+use mathlib.Core.Path.{_≡_, refl, sym, ap, _∙_}
+use mathlib.Core.Bool.{Bool, true, cond}
+use mathlib.Core.List.{[], _∷_, _++_}
+use mathlib.Core.Logic.{inl, inr}
+use Prim.Native.Nat.{ℕ, zero, suc, _≤_, _<_}
+use native.Mathlib.Nat.{eq-or-lt-of-le, le-of-suc-le-suc, not-suc-le-zero}
+use native.Mathlib.Omega.{arith}
+use borrow.Author.Tests.{lt-ltb}
+use lib.Dec.{ltb}
+use lib.ListN.{length, getD, length-append, List·getD-append}
+use lib.Seq.{getD-at}
+use Rattle.terms.proofs.Ranges.{first-holds, second-holds}
+use Rattle.account.specs.DayEnd.{listed, every}
+
+listed-length : {A : Type 0} (n : ℕ) (f : ℕ → A) → length (listed n f) ≡ n
+listed-length zero f = refl
+listed-length (suc n) f = omega (arith, length-append (listed n f) (f n ∷ []), listed-length n f)
+
+pub listed-at : {A : Type 0} (n : ℕ) (f : ℕ → A) (i : ℕ) (none : A) → i < n → getD (listed n f) i none ≡ f i
+listed-at zero f i none h = absurd (not-suc-le-zero h)
+listed-at (suc n) f i none h =
+    elim (eq-or-lt-of-le (le-of-suc-le-suc h)) [
+      | inl e ↦ ap (λ (k : ℕ). getD (listed n f ++ f n ∷ []) k none) e ∙ getD-at (listed n f) (f n) [] none n (listed-length n f) ∙ ap f (sym e)
+      | inr l ↦ List·getD-append (listed n f) (f n ∷ []) none i (omega (arith, l, listed-length n f)) ∙ listed-at n f i none l
+    ]
+
+-- where the first so many rows are put in and the others stay
+pub listed-below : {A : Type 0} (n m : ℕ) (new old : ℕ → A) (i : ℕ) (none : A) → m ≤ n → i < m → getD (listed n (λ j. cond (ltb j m) (new j) (old j))) i none ≡ new i
+listed-below n m new old i none few h =
+    listed-at n (λ j. cond (ltb j m) (new j) (old j)) i none (omega (arith, few, h)) ∙ rw (lt-ltb i m h)
+
+pub each-passes : (n : ℕ) (test : ℕ → Bool) → every n test ≡ true → (i : ℕ) → i < n → test i ≡ true
+each-passes zero test all i h = absurd (not-suc-le-zero h)
+each-passes (suc n) test all i h =
+    elim (eq-or-lt-of-le (le-of-suc-le-suc h)) [
+      | inl e ↦ ap test e ∙ second-holds (every n test) (test n) all
+      | inr l ↦ each-passes n test (first-holds (every n test) (test n) all) i l
+    ]

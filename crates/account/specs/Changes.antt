@@ -1,0 +1,48 @@
+-- What an accepted entry changes, and the account after it: the one place that says how an account changes within the day (house).
+use Prim.Native.Nat.{ℕ}
+use lib.ListN.{set}
+use Rattle.account.specs.Rows.{free, noPosition, noHolding}
+use Rattle.account.specs.declared.account.Account.{Account}
+use Rattle.account.specs.declared.account.Holding.{Holding}
+use Rattle.account.specs.declared.account.Resting.{Resting}
+use Rattle.account.specs.declared.account.Sheet.{Sheet}
+use Rattle.account.specs.declared.judged.Change.{Change}
+
+-- the account after a change, whole (house)
+unfoldable pub applied : Account → Change → Account
+applied a change =
+    record {
+      sheet = change .sheet;
+      positions = set (a .positions) (change .contract) (change .position);
+      orders = set (a .orders) (change .place) (change .order);
+      holdings = set (a .holdings) (change .underlying) (change .holding);
+      last = change .last;
+    }
+
+-- a change of the sheet alone; 64, 32 and 8 are past the last contract, place and underlying and name none (house)
+abbrev pub ofSheet : Sheet → ℕ → Change
+ofSheet sheet last =
+    record {
+      sheet = sheet;
+      contract = 64;
+      position = noPosition;
+      place = 32;
+      order = free;
+      underlying = 8;
+      holding = noHolding;
+      last = last;
+    }
+
+-- a change that moves no position: the sheet, one place and one underlying's holding (house)
+abbrev pub withoutPosition : Sheet → ℕ → Resting → ℕ → Holding → ℕ → Change
+withoutPosition sheet place order underlying holding last =
+    record {
+      sheet = sheet;
+      contract = 64;
+      position = noPosition;
+      place = place;
+      order = order;
+      underlying = underlying;
+      holding = holding;
+      last = last;
+    }

@@ -1,0 +1,16 @@
+-- The account, as document 01's "The account", "Orders and fills", "Limits" and "Day end" state it.
+pub mod Changes
+pub mod Checks
+pub mod DayEnd
+pub mod Fills
+pub mod Locks
+pub mod Money
+pub mod Opening
+pub mod Orders
+pub mod Rows
+pub mod Sound
+pub mod Steps
+pub mod Sums
+pub mod Totals
+pub mod Transfers
+pub mod Verdicts

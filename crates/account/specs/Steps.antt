@@ -1,0 +1,82 @@
+-- An entry on tables and account, and a list of them: the verdict, and tables and account after it (Refusal numbers; Records).
+use mathlib.Core.List.{List, [], _∷_}
+use Rattle.terms.specs.declared.refusal.Refusal.the-variants.{OutOfPlace}
+use Rattle.entries.specs.declared.entry.Entry.{Entry}
+use Rattle.entries.specs.declared.entry.Entry.the-variants.{Deposit, Withdraw, Lock, Unlock, Order, Fill, Cancel, DayEnd, Underlying, Contract, Opening}
+use Rattle.entries.specs.declared.entry.Figures.{Figures}
+use Rattle.account.specs.Changes.{applied}
+use Rattle.account.specs.Checks.{orderVerdict}
+use Rattle.account.specs.DayEnd.{dayEndVerdict, figuresInstalled, dayEnded}
+use Rattle.account.specs.Fills.{named, fillVerdict, fillChange, cancelVerdict, cancelChange}
+use Rattle.account.specs.Locks.{lockVerdict, lockChange, unlockVerdict, unlockChange}
+use Rattle.account.specs.Orders.{factsOf, orderChange}
+use Rattle.account.specs.Rows.{holding}
+use Rattle.account.specs.Totals.{spareUnits}
+use Rattle.account.specs.Transfers.{depositVerdict, depositChange, withdrawVerdict, withdrawChange}
+use Rattle.account.specs.declared.account.Account.{Account}
+use Rattle.account.specs.declared.judged.Verdict.{Verdict}
+use Rattle.account.specs.declared.judged.Verdict.the-variants.{Accepted, Refused}
+use Rattle.account.specs.declared.tables.Tables.{Tables}
+
+-- the verdict on an entry, once the account is open; "record out of its place": set-up has ended (Refusal numbers, 5)
+unfoldable pub refusalOf : Tables → Account → Entry → Figures → Verdict
+refusalOf t a (Deposit amount) f = depositVerdict (a .sheet) amount
+refusalOf t a (Withdraw amount) f = withdrawVerdict (a .sheet) amount
+refusalOf t a (Lock u units) f = lockVerdict t (holding a u) u units
+refusalOf t a (Unlock u units) f = unlockVerdict t (spareUnits t a u) u units
+refusalOf t a (Order o) f = orderVerdict (factsOf t a o) o
+refusalOf t a (Fill fill) f = fillVerdict (named t a (fill .number)) fill
+refusalOf t a (Cancel number) f = cancelVerdict (named t a number)
+refusalOf t a (DayEnd n m) f = dayEndVerdict t n m f
+refusalOf t a (Underlying row) f = Refused OutOfPlace
+refusalOf t a (Contract row) f = Refused OutOfPlace
+refusalOf t a (Opening cash) f = Refused OutOfPlace
+
+-- the tables after an accepted entry: a day end alone installs new figures (Day end)
+unfoldable pub tablesAfter : Tables → Entry → Figures → Tables
+tablesAfter t (Deposit amount) f = t
+tablesAfter t (Withdraw amount) f = t
+tablesAfter t (Lock u units) f = t
+tablesAfter t (Unlock u units) f = t
+tablesAfter t (Order o) f = t
+tablesAfter t (Fill fill) f = t
+tablesAfter t (Cancel number) f = t
+tablesAfter t (DayEnd n m) f = figuresInstalled t f
+tablesAfter t (Underlying row) f = t
+tablesAfter t (Contract row) f = t
+tablesAfter t (Opening cash) f = t
+
+-- the account after an accepted entry (house)
+unfoldable pub accountAfter : Tables → Account → Entry → Figures → Account
+accountAfter t a (Deposit amount) f = applied a (depositChange (a .sheet) (a .last) amount)
+accountAfter t a (Withdraw amount) f = applied a (withdrawChange (a .sheet) (a .last) amount)
+accountAfter t a (Lock u units) f = applied a (lockChange a u units)
+accountAfter t a (Unlock u units) f = applied a (unlockChange a u units)
+accountAfter t a (Order o) f = applied a (orderChange (factsOf t a o) o)
+accountAfter t a (Fill fill) f = applied a (fillChange (named t a (fill .number)) fill)
+accountAfter t a (Cancel number) f = applied a (cancelChange (named t a number))
+accountAfter t a (DayEnd n m) f = dayEnded (figuresInstalled t f) a
+accountAfter t a (Underlying row) f = a
+accountAfter t a (Contract row) f = a
+accountAfter t a (Opening cash) f = a
+
+-- what an entry leads to (house)
+pub record Outcome : Type 0 where
+  pub verdict : Verdict
+  pub tables : Tables
+  pub account : Account
+
+-- "a refusal leaves the whole account equal" (Refusal numbers)
+abbrev pub outcome : Verdict → Tables → Account → Tables → Account → Outcome
+outcome Accepted t a t' a' = record { verdict = Accepted; tables = t'; account = a' }
+outcome (Refused why) t a t' a' = record { verdict = Refused why; tables = t; account = a }
+
+unfoldable pub step : Tables → Account → Entry → Figures → Outcome
+step t a e f = outcome (refusalOf t a e f) t a (tablesAfter t e f) (accountAfter t a e f)
+
+-- a list of entries, each with its figures: what each of them leads to, one after the other (house)
+unfoldable pub run : Tables → Account → List (Entry × Figures) → List Outcome
+run t a [] = []
+run t a (e ∷ es) =
+    let after = step t a (e .0) (e .1) in
+    after ∷ run (after .tables) (after .account) es

@@ -1,0 +1,62 @@
+// What an entry is judged by, the verdict, and what an accepted entry changes.
+use crate::account::Holding;
+use crate::account::Resting;
+use crate::account::Sheet;
+use entries::Underlying;
+use terms::Contracts;
+use terms::Position;
+use terms::Refusal;
+use terms::Units;
+
+pub enum Verdict {
+    Accepted,
+    Refused(Refusal),
+}
+
+// The facts of an order; of one whose values are not allowed nothing else is known. Position is the count that the order moves and
+// closing what rests of its kind on its contract; rights and total are what counts against those limits already.
+pub struct Facts {
+    pub allowed: bool,
+    pub last: u32,
+    pub place: usize,
+    pub position: Contracts,
+    pub closing: Contracts,
+    pub rights: Contracts,
+    pub total: Contracts,
+    pub underlying: u16,
+    pub limits: Underlying,
+    pub holding: Holding,
+    pub spare: Units,
+    pub needed: Units,
+    pub sheet: Sheet,
+    pub available: i64,
+    pub hold: u64,
+}
+
+// The facts of a fill and of a cancel: the order that the number names, at its place, with what one contract of it holds and what
+// one contract's margin is. Where no order has the number, the place is past the last and the order is a free one.
+pub struct Named {
+    pub place: usize,
+    pub order: Resting,
+    pub position: Position,
+    pub unit: u32,
+    pub underlying: u16,
+    pub holding: Holding,
+    pub hold: u64,
+    pub margin: u64,
+    pub sheet: Sheet,
+    pub last: u32,
+}
+
+// What an accepted entry leaves: the sheet, one contract's position, one place's order, one underlying's holding, and the last
+// accepted number. A contract, a place or an underlying past the last one names none, and then nothing of its sort changes.
+pub struct Change {
+    pub sheet: Sheet,
+    pub contract: usize,
+    pub position: Position,
+    pub place: usize,
+    pub order: Resting,
+    pub underlying: usize,
+    pub holding: Holding,
+    pub last: u32,
+}

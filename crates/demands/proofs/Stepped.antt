@@ -1,0 +1,29 @@
+-- What follows from how steps are made: every entry of a list gets an outcome, a refused one leaves tables and account as they were, and a day end keeps the last accepted number.
+use mathlib.Core.Path.{_≡_, refl, ap}
+use mathlib.Core.List.{List, [], _∷_}
+use Prim.Native.Nat.{suc}
+use lib.ListN.{length}
+use Rattle.terms.specs.declared.refusal.Refusal.{Refusal}
+use Rattle.entries.specs.declared.entry.Entry.{Entry}
+use Rattle.entries.specs.declared.entry.Figures.{Figures}
+use Rattle.account.specs.DayEnd.{ordersCancelled, positionsNetted, marginAfresh, premiumJoined, dailyZero, unitsReleased, dayEnded}
+use Rattle.account.specs.Steps.{refusalOf, step, run}
+use Rattle.account.specs.declared.account.Account.{Account}
+use Rattle.account.specs.declared.judged.Verdict.the-variants.{Refused}
+use Rattle.account.specs.declared.tables.Tables.{Tables}
+
+pub refused-same : (t : Tables) (a : Account) (entry : Entry) (f : Figures) (why : Refusal) → refusalOf t a entry f ≡ Refused why
+    → (step t a entry f .verdict ≡ Refused why) × (step t a entry f .tables ≡ t) × (step t a entry f .account ≡ a)
+unfolding step
+refused-same t a entry f why e = rw e (refl, refl, refl)
+
+pub all-answered : (t : Tables) (a : Account) (entries : List (Entry × Figures)) → length (run t a entries) ≡ length entries
+unfolding run
+all-answered t a [] = refl
+all-answered t a (entry ∷ rest) =
+    let after = step t a (entry .0) (entry .1) in
+    ap suc (all-answered (after .tables) (after .account) rest)
+
+pub number-kept : (t : Tables) (a : Account) → dayEnded t a .last ≡ a .last
+unfolding dayEnded unitsReleased dailyZero premiumJoined marginAfresh positionsNetted ordersCancelled
+number-kept t a = refl

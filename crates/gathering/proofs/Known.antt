@@ -1,0 +1,108 @@
+-- What a sound account and an order with allowed values give to the facts: its rows are inside the arrays, its sums are totals that the limits bound, and its hold is a small multiple of one contract's.
+use mathlib.Core.Path.{_≡_, refl}
+use mathlib.Core.Bool.{true, not, _&&_}
+use Prim.Native.Nat.{ℕ, _+_, _-_, _*_, _^_, _≤_, _<_}
+use native.Mathlib.Nat.{le-trans, le-of-lt}
+use native.Mathlib.Omega.{arith}
+use lib.Dec.{ltb, eqb}
+use lib.IntN.{ℤ}
+use mir.Syntax.{w64}
+use mir.Val.{Fits}
+use Rattle.terms.specs.Codes.{kindCode}
+use Rattle.terms.specs.Counts.{unitsFor}
+use Rattle.terms.specs.Kinds.{movesOf}
+use Rattle.terms.specs.Ranges.{rangeOf, _∈_}
+use Rattle.terms.specs.declared.count.Units.{Units}
+use Rattle.terms.specs.declared.kind.Side.{Side}
+use Rattle.terms.specs.declared.measure.Measure.the-variants.{Price, Quantity}
+use Rattle.terms.proofs.Product.{product-below}
+use Rattle.terms.proofs.Ranges.{first-holds, second-holds}
+use Rattle.rules.specs.Count.{forCount}
+use Rattle.entries.specs.declared.entry.Order.{Order}
+use Rattle.account.specs.Money.{availableOf, holdOne}
+use Rattle.account.specs.Orders.{coveredPut, factsIn, freePlace, orderAllowed}
+use Rattle.account.specs.Rows.{contract, underlying, position, holding}
+use Rattle.account.specs.Sound.{Sound}
+use Rattle.account.specs.Totals.{countOf, overOrders, rightsIn, spareUnits, totalIn}
+use Rattle.account.specs.declared.account.Account.{Account}
+use Rattle.account.specs.declared.tables.Tables.{Tables}
+use Rattle.account.proofs.Bounds.{left-so-far, limits-of, one-hold, order-figures, total-most}
+use Rattle.account.proofs.Allowed.{contract-known, underlying-known}
+use Rattle.gathering.specs.Gathered.{heldIn, workingIn}
+use Rattle.gathering.specs.declared.held.Held.{Held}
+use Rattle.gathering.specs.declared.working.Working.{Working}
+
+module _ (t : Tables) (a : Account) (o : Order) (sound : Sound t a) (allowed : orderAllowed t o ≡ true) where
+  pub there : o .contract < t .n
+  there = contract-known t o allowed
+
+  -- the number of the order's underlying
+  abbrev pub under : ℕ
+  under = contract t (o .contract) .underlying
+
+  pub listed : under < t .m
+  listed = underlying-known t o allowed (sound .tables)
+
+  pub contract-inside : o .contract < 64
+  contract-inside = let few = sound .tables .fewContracts in omega (arith, there, few)
+
+  pub underlying-inside : under < 8
+  underlying-inside = let few = sound .tables .fewUnderlyings in omega (arith, listed, few)
+
+  pub priced : (o .price ∈ rangeOf Price) ≡ true
+  unfolding orderAllowed
+  priced =
+      let quantity = o .quantity ∈ rangeOf Quantity in
+      let price = o .price ∈ rangeOf Price in
+      let known = ltb (o .contract) (t .n) in
+      let call = not (coveredPut (movesOf (o .kind)) (contract t (o .contract) .right)) in
+      second-holds quantity price (first-holds (quantity && price) known (first-holds (quantity && price && known) call allowed))
+
+  module _ (h : Held) (w : Working) (code : ℕ) (held : h ≡ heldIn t a under) (working : w ≡ workingIn t a under (o .contract) code) where
+    pub long-most : h .long + w .buys ≤ 10_000
+    unfolding rightsIn
+    long-most = rw (held, working) (le-trans (sound .rights under listed) (limits-of (sound .tables) under listed .rights))
+
+    pub all-most : h .long + h .short + h .covered + w .opens ≤ 10_000
+    unfolding totalIn
+    all-most = rw (held, working) (total-most sound under listed)
+
+    pub same-most : w .same ≤ 3_200
+    unfolding overOrders
+    same-most = rw working (left-so-far sound (λ r. eqb (r .kind) code && eqb (r .contract) (o .contract)) 32 (omega arith))
+
+    pub units-within : h .units + w .reserved ≤ holding a under .locked .0
+    units-within = rw (held, working) (sound .units under listed)
+
+  pub hold-fits : (one : ℕ) → one ≡ holdOne t (o .kind) (o .contract) (o .price) → Fits w64 (o .quantity * one)
+  hold-fits one e =
+      let figures = order-figures o allowed in
+      let most : one ≤ 20_000_000_000 = rw e (le-of-lt (one-hold (sound .tables) (o .contract) there (o .kind) (o .price) (figures .price))) in
+      record { fits = product-below (2 ^ 64) (o .quantity) one (figures .quantity) most tt }
+
+  -- the facts as they are put together are those of the definition
+  pub put-together : (h : Held) (w : Working) (code place moved one : ℕ) (side : Side) (needed : Units) (available : ℤ)
+      → h ≡ heldIn t a under → w ≡ workingIn t a under (o .contract) code → code ≡ kindCode (o .kind) → place ≡ freePlace a
+      → moved ≡ countOf side (position a (o .contract)) → side ≡ movesOf (o .kind) → needed ≡ unitsFor (record { 0 = o .quantity }) (contract t (o .contract) .unit)
+      → available ≡ availableOf (a .sheet) → one ≡ holdOne t (o .kind) (o .contract) (o .price)
+      → record {
+        allowed = true;
+        last = a .last;
+        place = place;
+        position = record { 0 = moved };
+        closing = record { 0 = w .same };
+        rights = record { 0 = h .long + w .buys };
+        total = record { 0 = h .long + h .short + h .covered + w .opens };
+        underlying = under;
+        limits = underlying t under;
+        holding = holding a under;
+        spare = record { 0 = holding a under .locked .0 - h .units - w .reserved };
+        needed = needed;
+        sheet = a .sheet;
+        available = available;
+        hold = o .quantity * one;
+      }
+      ≡ factsIn t a o
+  unfolding rightsIn totalIn spareUnits forCount
+  put-together h w code place moved one side needed available held working coded places counts moves needs reach holds =
+      rw (held, working, coded, places, counts, moves, needs, reach, holds) refl

@@ -1,0 +1,50 @@
+-- `change` meets its contract: each part of the change is built as the definition builds it, and both sums fit since what was there and what comes do.
+use mathlib.Core.Path.{_≡_, refl}
+use mathlib.Core.Bool.{Bool, true, false}
+use Prim.Native.Nat.{ℕ, _+_, _^_, _<_}
+use native.Mathlib.Omega.{arith}
+use borrow.Author.Needs.{needs}
+use lib.Dec.{eqb}
+use Rattle.terms.specs.Codes.{kindCode}
+use Rattle.terms.specs.declared.kind.OrderKind.the-variants.{BuyOpen}
+use Rattle.entries.specs.declared.entry.Order.{Order}
+use Rattle.account.specs.Changes.{withoutPosition}
+use Rattle.account.specs.Orders.{orderChange, withHold}
+use Rattle.account.specs.Sums.{_when_}
+use Rattle.account.specs.Totals.{isKind}
+use Rattle.account.specs.declared.judged.Facts.{Facts}
+use Rattle.orders.proofs.apply.change.Statement.{statement}
+use Rattle.orders.proofs.apply.change.Tie as tie
+
+-- a term that counts only at times is no more than itself
+most : (before quantity own : ℕ) (test : Bool) → own ≡ (quantity when test) → before + quantity < 2 ^ 32 → before + own < 2 ^ 32
+most before quantity own true e h = omega (arith, e, h)
+most before quantity own false e h = omega (arith, e, h)
+
+built : (f : Facts) (o : Order) (code own : ℕ) → code ≡ kindCode (o .kind) → own ≡ (o .quantity when isKind BuyOpen code)
+    → withoutPosition (withHold f) (f .place)
+    (record { number = o .number; contract = o .contract; kind = code; left = record { 0 = o .quantity }; price = o .price })
+    (f .underlying)
+    (record { locked = f .holding .locked; bought = record { 0 = f .holding .bought .0 + own } })
+    (o .number)
+    ≡ orderChange f o
+unfolding orderChange
+built f o code own coded counted = rw (counted, coded) refl
+
+pub change-spec : {M : Type 1} → statement M
+change-spec =
+    tie.close
+    (tie.spec
+    (λ c κs. tt)
+    (λ c. search needs)
+    (λ c κs. tt)
+    (λ c. search needs)
+    (λ c. let fit = most _ _ _ (eqb (c .before .before .before .before .before .code .result) 1) (c .before .counted .ensures) (c .before .before .before .before .before .before .pre .1) in record { fits = omega (arith, fit) })
+    (λ c. record { fits = most _ _ _ (eqb (c .before .before .before .before .before .code .result) 1) (c .before .counted .ensures) (c .before .before .before .before .before .before .pre .1) })
+    (λ c. search needs)
+    (λ c. search needs)
+    (λ c.
+    let args = c .before .before .before .before .before .before .before .before .before .before .args in
+    built (args .facts) (args .order) _ _
+    (c .before .before .before .before .before .before .before .before .before .code .ensures)
+    (c .before .before .before .before .before .counted .ensures)))
