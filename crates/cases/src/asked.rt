@@ -1,17 +1,17 @@
 // The entry that a line asks to be written: its kind stands second, its fields from the third on.
 ghost use Prim.Native.Nat.{_≤_};
 ghost use lib.ListN.{length};
-use crate::codes;
-use crate::input::field;
-use crate::input::hex;
-use crate::input::hex4;
-use crate::input::hex8;
 use entries::Contract;
 use entries::Entry;
 use entries::Figures;
 use entries::Fill;
 use entries::Order;
 use entries::Underlying;
+use lines::codes;
+use lines::input::field;
+use lines::input::hex;
+use lines::input::hex4;
+use lines::input::hex8;
 
 pub fn entry(l: &[u8]) -> Entry {
     match field(l, 2) {

@@ -1,9 +1,9 @@
 // Margins, premiums and netting: the numbers of a line, and what the functions make of them.
-use crate::codes;
-use crate::input::field;
-use crate::input::word;
-use crate::output::number;
-use crate::output::refused;
+use lines::codes;
+use lines::input::half;
+use lines::input::word;
+use lines::output::number;
+use lines::output::refused;
 use rules::Charge;
 use terms::Contracts;
 use terms::Position;
@@ -17,8 +17,8 @@ fn charge(c: Charge) {
 
 // Class, right, settlement, close, strike, unit.
 pub fn margin(l: &[u8]) {
-    let class = codes::class((field(l, 1) % 65_536) as u16);
-    let right = codes::right((field(l, 2) % 65_536) as u16);
+    let class = codes::class(half(l, 1));
+    let right = codes::right(half(l, 2));
     charge(rules::margin(class, right, word(l, 3), word(l, 4), word(l, 5), word(l, 6)));
 }
 

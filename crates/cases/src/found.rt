@@ -1,14 +1,14 @@
 // An entry that was read: its kind, the record's length, and its fields as the record has them.
-use crate::output::hex4;
-use crate::output::hex8;
-use crate::output::hex16;
-use crate::output::number;
 use entries::Contract;
 use entries::Entry;
 use entries::Figures;
 use entries::Fill;
 use entries::Order;
 use entries::Underlying;
+use lines::output::hex4;
+use lines::output::hex8;
+use lines::output::hex16;
+use lines::output::number;
 
 pub fn show(entry: Entry, length: usize, figures: Figures) {
     number(entry.kind().code() as u64);

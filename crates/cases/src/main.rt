@@ -1,15 +1,13 @@
 // Runs the examples of standard input, a line each, through the compiled functions, and writes each line again with '=' and what came out.
 mod asked;
 mod charges;
-mod codes;
 mod found;
-mod input;
-mod output;
 mod ranges;
 mod reads;
 mod writes;
 
-use output::text;
+use lines::input::line_end;
+use lines::output::text;
 
 fn main() {
     let mut buffer = io::large_buffer();
@@ -20,7 +18,7 @@ fn main() {
 fn run(s: &[u8]) {
     let mut at = 0;
     while at < s.len() {
-        let stop = input::line_end(s, at);
+        let stop = line_end(s, at);
         line(&s[at..stop]);
         at = stop + 1;
     }

@@ -1,6 +1,6 @@
 // The ranges: a measure by its number, a value, and 1 where the value is allowed.
-use crate::input::field;
-use crate::output::number;
+use lines::input::field;
+use lines::output::number;
 use terms::Measure;
 
 fn measure(n: u64) -> Measure {

@@ -1,11 +1,11 @@
 // Records read from the bytes of a line.
 use crate::found;
-use crate::input::LENT;
-use crate::input::bytes;
-use crate::input::hex;
-use crate::output;
-use crate::output::hex16;
-use crate::output::number;
+use lines::input::LENT;
+use lines::input::bytes;
+use lines::input::hex;
+use lines::output;
+use lines::output::hex16;
+use lines::output::number;
 use reading::Answer;
 use reading::Reading;
 use terms::Refusal;

@@ -1,11 +1,11 @@
 // Records written into lent bytes.
 use crate::asked;
-use crate::input::LENT;
-use crate::input::field;
-use crate::output::bytes;
-use crate::output::number;
-use crate::output::refused;
-use crate::output::text;
+use lines::input::LENT;
+use lines::input::field;
+use lines::output::bytes;
+use lines::output::number;
+use lines::output::refused;
+use lines::output::text;
 use writing::Written;
 
 // The buffer's size, the kind, the fields.

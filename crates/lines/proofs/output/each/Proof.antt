@@ -2,8 +2,8 @@
 use Prim.Native.Nat.{_≤_, _-_}
 use native.Mathlib.Omega.{arith}
 use lib.ListN.{length}
-use Rattle.cases.proofs.output.each.Statement.{statement}
-use Rattle.cases.proofs.output.each.Tie as tie
+use Rattle.lines.proofs.output.each.Statement.{statement}
+use Rattle.lines.proofs.output.each.Tie as tie
 
 abbrev Inv-loop : tie.InvT-loop
 Inv-loop s i₀ i = i ≤ length s

@@ -2,8 +2,8 @@
 use Prim.Native.Nat.{_≤_, _-_, max}
 use native.Mathlib.Omega.{arith}
 use lib.ListN.{length}
-use Rattle.cases.proofs.input.line_end.Statement.{statement}
-use Rattle.cases.proofs.input.line_end.Tie as tie
+use Rattle.lines.proofs.input.line_end.Statement.{statement}
+use Rattle.lines.proofs.input.line_end.Tie as tie
 
 abbrev Inv-loop : tie.InvT-loop
 Inv-loop s from at₀ at = (from ≤ at) × (at ≤ max from (length s))

@@ -1,10 +1,13 @@
 // Lines, and what stands in them: a line is a word and then its fields, a space before each.
-ghost use Prim.Native.Nat.{_≤_, max};
+ghost use Prim.Native.Nat.{_^_, _≤_, _<_, max};
 ghost use lib.ListN.{length};
 ghost use Rattle.io.specs.Counts.{Counts};
 
 // How many bytes an example can lend: more than the 296 of the longest record, so that something can stand around one.
 pub const LENT: usize = 320;
+
+// 2^60: below it a number has room for one more digit of either kind, and for a sign.
+const ROOM: u64 = 1_152_921_504_606_846_976;
 
 // Where the line that starts at `from` ends.
 pub fn line_end(s: &[u8], from: usize) -> usize
@@ -22,16 +25,31 @@ pub fn line_end(s: &[u8], from: usize) -> usize
 
 // The k-th field of a line, counted from 1, as a decimal number.
 pub fn field(l: &[u8], k: usize) -> u64 {
-    digits(l, k, false)
+    digits(l, start(l, k), false)
+}
+
+pub fn half(l: &[u8], k: usize) -> u16 {
+    (field(l, k) % 65_536) as u16
 }
 
 pub fn word(l: &[u8], k: usize) -> u32 {
     (field(l, k) % 4_294_967_296) as u32
 }
 
+// The k-th field as a decimal number that may lie below zero, with a minus before its digits.
+pub fn signed(l: &[u8], k: usize) -> i64 {
+    let from = start(l, k);
+    if from < l.len() {
+        if l[from] == b'-' {
+            return 0 - magnitude(l, from + 1) as i64;
+        }
+    }
+    magnitude(l, from) as i64
+}
+
 // The k-th field as a hexadecimal number: these show each byte of a record by itself.
 pub fn hex(l: &[u8], k: usize) -> u64 {
-    digits(l, k, true)
+    digits(l, start(l, k), true)
 }
 
 pub fn hex4(l: &[u8], k: usize) -> u16 {
@@ -69,24 +87,46 @@ fn lay(into: &mut [u8; LENT], laid: usize, b: u8) -> usize
     laid + 1
 }
 
-fn digits(l: &[u8], k: usize, hexadecimal: bool) -> u64 {
+// Where the k-th field starts: behind the k-th space, or at the line's end where there are fewer.
+fn start(l: &[u8], k: usize) -> usize
+    ensures { λ r. ⌜ r ≤ length (now (l .entry)) ⌝ }
+{
     let mut at = 0;
     let mut spaces = 0;
+    while at < l.len() {
+        if spaces == k {
+            return at;
+        }
+        if l[at] == b' ' {
+            spaces += 1;
+        }
+        at += 1;
+    }
+    at
+}
+
+// What the field that starts at `from` spells.
+fn digits(l: &[u8], from: usize, hexadecimal: bool) -> u64 {
+    let mut at = from;
     let mut value: u64 = 0;
     while at < l.len() {
         if l[at] == b' ' {
-            spaces += 1;
-        } else if spaces == k {
-            value = digit_after(value, l[at], hexadecimal);
+            return value;
         }
+        value = digit_after(value, l[at], hexadecimal);
         at += 1;
     }
     value
 }
 
-// Below 2^60 there is room for one more digit of either kind.
+fn magnitude(l: &[u8], from: usize) -> u64
+    ensures { λ r. ⌜ r < 2 ^ 60 ⌝ }
+{
+    digits(l, from, false) % ROOM
+}
+
 fn digit_after(value: u64, b: u8, hexadecimal: bool) -> u64 {
-    if value >= 1_152_921_504_606_846_976 {
+    if value >= ROOM {
         value
     } else if hexadecimal {
         value * 16 + digit(b) as u64

@@ -2,8 +2,8 @@
 use Prim.Native.Nat.{_≤_, _-_}
 use borrow.Author.Needs.{needs}
 use lib.ListN.{length}
-use Rattle.cases.proofs.input.bytes.Statement.{statement}
-use Rattle.cases.proofs.input.bytes.Tie as tie
+use Rattle.lines.proofs.input.bytes.Statement.{statement}
+use Rattle.lines.proofs.input.bytes.Tie as tie
 
 abbrev Inv-loop : tie.InvT-loop
 Inv-loop l into₀ at₀ laid₀ into at laid = (at ≤ length l) × (laid ≤ 640)
