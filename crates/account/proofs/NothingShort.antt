@@ -34,12 +34,13 @@ use Rattle.account.proofs.Moved.{margin-moved}
 use Rattle.account.proofs.Passed.{went-on}
 use Rattle.account.proofs.Taken.{resting-taken, holds-taken}
 
-pub withdraw-exact : (a : Account) (amount : ℕ) → withdrawVerdict (a .sheet) amount ≡ Accepted → amount ≤ a .sheet .cash
+-- what is withdrawn is available: what is held and what is asked as margin stays
+pub withdraw-exact : (a : Account) (amount : ℕ) → withdrawVerdict (a .sheet) amount ≡ Accepted → a .sheet .holds + a .sheet .margin + amount ≤ a .sheet .cash
 unfolding withdrawVerdict
 withdraw-exact a amount e =
     let range = went-on (amount ∈ rangeOf Transfer) OutOfRange _ e in
     let within = went-on (leZ (pos amount) (availableOf (a .sheet))) AvailablePassed _ (range .1) in
-    omega (arith, leb-true (a .sheet .holds + a .sheet .margin + amount) (a .sheet .cash) (sym (reaches (a .sheet) amount) ∙ within .0))
+    leb-true _ _ (sym (reaches (a .sheet) amount) ∙ within .0)
 
 pub spare-exact : (t : Tables) (a : Account) (u : ℕ) → Sound t a → u < t .m → spareUnits t a u .0 + coveredUnits t a u + reservedUnits t a u ≡ holding a u .locked .0
 unfolding spareUnits

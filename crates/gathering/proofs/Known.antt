@@ -20,7 +20,7 @@ use Rattle.terms.proofs.Ranges.{first-holds, second-holds}
 use Rattle.rules.specs.Count.{forCount}
 use Rattle.entries.specs.declared.entry.Order.{Order}
 use Rattle.account.specs.Money.{availableOf, holdOne}
-use Rattle.account.specs.Orders.{coveredPut, factsIn, freePlace, orderAllowed}
+use Rattle.account.specs.Orders.{coveredPut, factsIn, freePlace, orderAllowed, under}
 use Rattle.account.specs.Rows.{contract, underlying, position, holding}
 use Rattle.account.specs.Sound.{Sound}
 use Rattle.account.specs.Totals.{countOf, overOrders, rightsIn, spareUnits, totalIn}
@@ -36,17 +36,13 @@ module _ (t : Tables) (a : Account) (o : Order) (sound : Sound t a) (allowed : o
   pub there : o .contract < t .n
   there = contract-known t o allowed
 
-  -- the number of the order's underlying
-  abbrev pub under : ℕ
-  under = contract t (o .contract) .underlying
-
-  pub listed : under < t .m
+  pub listed : (under t o) < t .m
   listed = underlying-known t o allowed (sound .tables)
 
   pub contract-inside : o .contract < 64
   contract-inside = let few = sound .tables .fewContracts in omega (arith, there, few)
 
-  pub underlying-inside : under < 8
+  pub underlying-inside : (under t o) < 8
   underlying-inside = let few = sound .tables .fewUnderlyings in omega (arith, listed, few)
 
   pub priced : (o .price ∈ rangeOf Price) ≡ true
@@ -58,21 +54,21 @@ module _ (t : Tables) (a : Account) (o : Order) (sound : Sound t a) (allowed : o
       let call = not (coveredPut (movesOf (o .kind)) (contract t (o .contract) .right)) in
       second-holds quantity price (first-holds (quantity && price) known (first-holds (quantity && price && known) call allowed))
 
-  module _ (h : Held) (w : Working) (code : ℕ) (held : h ≡ heldIn t a under) (working : w ≡ workingIn t a under (o .contract) code) where
+  module _ (h : Held) (w : Working) (code : ℕ) (held : h ≡ heldIn t a (under t o)) (working : w ≡ workingIn t a (under t o) (o .contract) code) where
     pub long-most : h .long + w .buys ≤ 10_000
     unfolding rightsIn
-    long-most = rw (held, working) (le-trans (sound .rights under listed) (limits-of (sound .tables) under listed .rights))
+    long-most = rw (held, working) (le-trans (sound .rights (under t o) listed) (limits-of (sound .tables) (under t o) listed .rights))
 
     pub all-most : h .long + h .short + h .covered + w .opens ≤ 10_000
     unfolding totalIn
-    all-most = rw (held, working) (total-most sound under listed)
+    all-most = rw (held, working) (total-most sound (under t o) listed)
 
     pub same-most : w .same ≤ 3_200
     unfolding overOrders
     same-most = rw working (left-so-far sound (λ r. eqb (r .kind) code && eqb (r .contract) (o .contract)) 32 (omega arith))
 
-    pub units-within : h .units + w .reserved ≤ holding a under .locked .0
-    units-within = rw (held, working) (sound .units under listed)
+    pub units-within : h .units + w .reserved ≤ holding a (under t o) .locked .0
+    units-within = rw (held, working) (sound .units (under t o) listed)
 
   pub hold-fits : (one : ℕ) → one ≡ holdOne t (o .kind) (o .contract) (o .price) → Fits w64 (o .quantity * one)
   hold-fits one e =
@@ -82,7 +78,7 @@ module _ (t : Tables) (a : Account) (o : Order) (sound : Sound t a) (allowed : o
 
   -- the facts as they are put together are those of the definition
   pub put-together : (h : Held) (w : Working) (code place moved one : ℕ) (side : Side) (needed : Units) (available : ℤ)
-      → h ≡ heldIn t a under → w ≡ workingIn t a under (o .contract) code → code ≡ kindCode (o .kind) → place ≡ freePlace a
+      → h ≡ heldIn t a (under t o) → w ≡ workingIn t a (under t o) (o .contract) code → code ≡ kindCode (o .kind) → place ≡ freePlace a
       → moved ≡ countOf side (position a (o .contract)) → side ≡ movesOf (o .kind) → needed ≡ unitsFor (record { 0 = o .quantity }) (contract t (o .contract) .unit)
       → available ≡ availableOf (a .sheet) → one ≡ holdOne t (o .kind) (o .contract) (o .price)
       → record {
@@ -93,10 +89,10 @@ module _ (t : Tables) (a : Account) (o : Order) (sound : Sound t a) (allowed : o
         closing = record { 0 = w .same };
         rights = record { 0 = h .long + w .buys };
         total = record { 0 = h .long + h .short + h .covered + w .opens };
-        underlying = under;
-        limits = underlying t under;
-        holding = holding a under;
-        spare = record { 0 = holding a under .locked .0 - h .units - w .reserved };
+        underlying = under t o;
+        limits = underlying t (under t o);
+        holding = holding a (under t o);
+        spare = record { 0 = holding a (under t o) .locked .0 - h .units - w .reserved };
         needed = needed;
         sheet = a .sheet;
         available = available;

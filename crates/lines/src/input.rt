@@ -1,7 +1,9 @@
 // Lines, and what stands in them: a line is a word and then its fields, a space before each.
 ghost use Prim.Native.Nat.{_^_, _≤_, _<_, max};
 ghost use lib.ListN.{length};
+ghost use mathlib.Core.Path.{_≡_};
 ghost use Rattle.io.specs.Counts.{Counts};
+ghost use Rattle.lines.specs.Ends.{lineEnd};
 
 // How many bytes an example can lend: more than the 296 of the longest record, so that something can stand around one.
 pub const LENT: usize = 320;
@@ -11,16 +13,16 @@ const ROOM: u64 = 1_152_921_504_606_846_976;
 
 // Where the line that starts at `from` ends.
 pub fn line_end(s: &[u8], from: usize) -> usize
-    ensures { λ r. ⌜ (from ≤ r) × (r ≤ max from (length (now (s .entry)))) ⌝ }
+    ensures { λ r. ⌜ (from ≤ r) × (r ≤ max from (length (now (s .entry)))) × (r ≡ lineEnd (now (s .entry)) from) ⌝ }
 {
-    let mut at = from;
-    while at < s.len() {
-        if s[at] == b'\n' {
-            return at;
+    let mut end = from;
+    while end < s.len() {
+        if s[end] == b'\n' {
+            return end;
         }
-        at += 1;
+        end += 1;
     }
-    at
+    end
 }
 
 // The k-th field of a line, counted from 1, as a decimal number.

@@ -1,0 +1,2 @@
+-- Where lines end.
+pub mod Ends
