@@ -24,7 +24,7 @@ use Rattle.entries.specs.declared.entry.Underlying.{Underlying}
 use Rattle.account.specs.Money.{marginBy, marginOne, holdOne, kindOf, holdOf, holdsIn, marginIn}
 use Rattle.account.specs.Orders.{orderAllowed}
 use Rattle.account.specs.Rows.{free, contract, underlying, position, holding, order}
-use Rattle.account.specs.Sound.{SoundTables, SoundOrder, Sound, asOrder, underlyingAllowed, contractAllowed}
+use Rattle.account.specs.Sound.{SoundTables, SoundOrder, Sound, SoundSheet, asOrder, underlyingAllowed, contractAllowed}
 use Rattle.account.specs.Sums.{Σ, _when_}
 use Rattle.account.specs.Totals.{isOf, countOf, countIn, overOrders, totalIn, coveredUnits}
 use Rattle.account.specs.declared.account.Account.{Account}
@@ -165,10 +165,6 @@ module _ {t : Tables} {a : Account} (sound : Sound t a) where
   count-in Short u h = omega (arith, total-most u h)
   count-in Covered u h = omega (arith, total-most u h)
 
-  pub count-so-far : (side : Side) (u : ℕ) → u < t .m → (k : ℕ) → k ≤ t .n → Σ k (λ c. countOf side (position a c) when isOf t u c) ≤ 10_000
-  unfolding countIn
-  count-so-far side u h k l = le-trans (Σ-part k (t .n) _ l) (count-in side u h)
-
   -- one position's count is a term of the sum over its underlying
   pub count-of : (side : Side) (c : ℕ) → c < t .n → countOf side (position a c) ≤ 10_000
   unfolding countIn
@@ -177,13 +173,24 @@ module _ {t : Tables} {a : Account} (sound : Sound t a) where
       let term = Σ-term (t .n) c (λ k. countOf side (position a k) when isOf t u k) there in
       le-trans (rw (eq-eqb u u refl) at term) (count-in side u (row-of (sound .tables) c there .underlying))
 
+  -- a sum over the first k contracts, each with what is at most so much, where it counts
+  some-contracts : (f : ℕ → ℕ) (most : ℕ) → ((c : ℕ) → c < t .n → f c ≤ most) → (p : ℕ → Bool) (k : ℕ) → k ≤ t .n → Σ k (λ c. f c when p c) ≤ 64 * most
+  some-contracts f most each p k l =
+      let few = sound .tables .fewContracts in
+      le-trans (Σ-bound k _ most (λ c h. le-trans (when-most _ (p c)) (each c (omega (arith, h, l))))) (mul-le-mul-right most (omega (arith, l, few)))
+
+  pub count-so-far : (side : Side) (u k : ℕ) → k ≤ t .n → Σ k (λ c. countOf side (position a c) when isOf t u c) ≤ 64 * 10_000
+  count-so-far side u = some-contracts (λ c. countOf side (position a c)) 10_000 (count-of side) (isOf t u)
+
   -- covered units are locked
   pub covered-in : (u : ℕ) → u < t .m → coveredUnits t a u ≤ 2_000_000_000
   covered-in u h = omega (arith, sound .units u h, sound .locked u h)
 
-  pub covered-so-far : (u : ℕ) → u < t .m → (k : ℕ) → k ≤ t .n → Σ k (λ c. unitsFor (position a c .covered) (contract t c .unit) .0 when isOf t u c) ≤ 2_000_000_000
-  unfolding coveredUnits
-  covered-so-far u h k l = le-trans (Σ-part k (t .n) _ l) (covered-in u h)
+  pub covered-so-far : (u k : ℕ) → k ≤ t .n → Σ k (λ c. unitsFor (position a c .covered) (contract t c .unit) .0 when isOf t u c) ≤ 64 * (10_000 * 100_000)
+  covered-so-far u =
+      some-contracts (λ c. unitsFor (position a c .covered) (contract t c .unit) .0) (10_000 * 100_000)
+      (λ c there. mul-le-mul (count-of Covered c there) (figures-of (sound .tables) c there .unit))
+      (isOf t u)
 
   pub bought-most : (u : ℕ) → u < t .m → holding a u .bought .0 ≤ 10_000
   bought-most u h = le-trans (sound .daily u h) (limits-of (sound .tables) u h .daily)
@@ -199,19 +206,23 @@ module _ {t : Tables} {a : Account} (sound : Sound t a) where
   pub units-so-far : (p : Resting → Bool) (k : ℕ) → k ≤ 32 → Σ k (λ i. unitsFor (order a i .left) (contract t (order a i .contract) .unit) .0 when p (order a i)) ≤ 320_000_000
   units-so-far = some-places (λ r. unitsFor (r .left) (contract t (r .contract) .unit) .0) 10_000_000 (λ i h. small i h .units)
 
-  pub cash-most : a .sheet .cash ≤ 1_000_000_000_000_000
-  cash-most = omega (arith, sound .ceiling)
-
   pub holds-most : a .sheet .holds ≤ 32 * (100 * 20_000_000_000)
   unfolding holdsIn overOrders
   holds-most = subst (_≤ 32 * (100 * 20_000_000_000)) (sym (sound .holds)) (Σ-bound 32 _ _ (λ i h. small i h .hold))
 
-  pub margin-most : a .sheet .margin ≤ 64 * (10_000 * 20_000_000_000)
-  unfolding marginIn forCount
-  margin-most =
-      let each : (c : ℕ) → c < t .n → position a c .short .0 * marginOne t c ≤ 10_000 * 20_000_000_000 =
-      λ c there. mul-le-mul (count-of Short c there) (le-of-lt (one-margin (sound .tables) c there)) in
-      subst (_≤ 64 * (10_000 * 20_000_000_000)) (sym (sound .margin)) (le-trans (Σ-bound (t .n) _ _ each) (mul-le-mul-right _ (sound .tables .fewContracts)))
+  pub margin-so-far : (k : ℕ) → k ≤ t .n → Σ k (λ c. forCount (position a c .short .0) (marginOne t c)) ≤ 64 * (10_000 * 20_000_000_000)
+  unfolding forCount
+  margin-so-far k l =
+      let few : k ≤ 64 = le-trans l (sound .tables .fewContracts) in
+      let each : (c : ℕ) → c < k → position a c .short .0 * marginOne t c ≤ 10_000 * 20_000_000_000 =
+      λ c h. let there : c < t .n = omega (arith, h, l) in mul-le-mul (count-of Short c there) (le-of-lt (one-margin (sound .tables) c there)) in
+      le-trans (Σ-bound k _ _ each) (mul-le-mul-right _ few)
 
-  pub sheet-below : a .sheet .cash + a .sheet .holds + a .sheet .margin < 2 ^ 63
-  sheet-below = omega (arith, cash-most, holds-most, margin-most)
+  pub sheet-sound : SoundSheet (a .sheet)
+  unfolding marginIn
+  sheet-sound =
+      record {
+        ceiling = sound .ceiling;
+        holds = holds-most;
+        margin = subst (_≤ 64 * (10_000 * 20_000_000_000)) (sym (sound .margin)) (margin-so-far (t .n) (omega arith));
+      }

@@ -5,8 +5,9 @@ use Rattle.entries.specs.declared.entry.Entry.{Entry}
 use Rattle.entries.specs.declared.entry.Entry.the-variants.{Deposit, Withdraw, Lock, Unlock, Order, Fill, Cancel, DayEnd, Underlying, Contract, Opening}
 use Rattle.entries.specs.declared.entry.Figures.{Figures}
 use Rattle.account.specs.Sound.{AllSound, Sound}
-use Rattle.account.specs.Steps.{refusalOf, tablesAfter, accountAfter, Outcome, outcome, step, run}
+use Rattle.account.specs.Steps.{refusalOf, tablesAfter, accountAfter, outcome, step, run}
 use Rattle.account.specs.declared.account.Account.{Account}
+use Rattle.account.specs.declared.judged.Outcome.{Outcome}
 use Rattle.account.specs.declared.judged.Verdict.{Verdict}
 use Rattle.account.specs.declared.judged.Verdict.the-variants.{Accepted, Refused}
 use Rattle.account.specs.declared.tables.Tables.{Tables}

@@ -7,6 +7,10 @@ use Rattle.account.specs.declared.account.Holding.{Holding}
 use Rattle.account.specs.declared.account.Resting.{Resting}
 use Rattle.account.specs.declared.account.Sheet.{Sheet}
 use Rattle.account.specs.declared.judged.Change.{Change}
+use Rattle.account.specs.declared.judged.Decision.{Decision}
+use Rattle.account.specs.declared.judged.Decision.the-variants as Decision·of
+use Rattle.account.specs.declared.judged.Verdict.{Verdict}
+use Rattle.account.specs.declared.judged.Verdict.the-variants.{Accepted, Refused}
 
 -- the account after a change, whole (house)
 unfoldable pub applied : Account → Change → Account
@@ -46,3 +50,8 @@ withoutPosition sheet place order underlying holding last =
       holding = holding;
       last = last;
     }
+
+-- what is decided: the refusal, or the change of an accepted entry (house)
+abbrev pub decided : Verdict → Change → Decision
+decided Accepted change = Decision·of.Changes change
+decided (Refused why) change = Decision·of.Refused why

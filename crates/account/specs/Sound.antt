@@ -1,5 +1,5 @@
 -- What an account from an opening and accepted entries satisfies: demand 2 about holds, margins and limits, and what the step's safety rests on.
-use Prim.Native.Nat.{ℕ, _+_, _≤_, _<_}
+use Prim.Native.Nat.{ℕ, _+_, _*_, _≤_, _<_}
 use mathlib.Core.Bool.{Bool, true, false, _&&_}
 use mathlib.Core.Path.{_≡_}
 use mathlib.Core.List.{List, [], _∷_}
@@ -19,10 +19,11 @@ use Rattle.entries.specs.declared.entry.Underlying.{Underlying}
 use Rattle.account.specs.Money.{holdsIn, kindOf, marginIn}
 use Rattle.account.specs.Orders.{orderAllowed}
 use Rattle.account.specs.Rows.{free, noHolding, noPosition, contract, underlying, position, holding, order}
-use Rattle.account.specs.Steps.{Outcome}
 use Rattle.account.specs.Totals.{countOf, isKind, restingIn, restingOn, rightsIn, totalIn, coveredUnits, reservedUnits}
 use Rattle.account.specs.declared.account.Account.{Account}
 use Rattle.account.specs.declared.account.Resting.{Resting}
+use Rattle.account.specs.declared.account.Sheet.{Sheet}
+use Rattle.account.specs.declared.judged.Outcome.{Outcome}
 use Rattle.account.specs.declared.tables.Tables.{Tables}
 
 -- the values of an underlying's and of a contract's record, each in its range (Numbers; Refusal numbers, 4)
@@ -72,6 +73,12 @@ pub record Sound (t : Tables) (a : Account) : Type 0 where
   pub distinct : (i j : ℕ) → i < 32 → j < 32 → 1 ≤ order a i .number → order a i .number ≡ order a j .number → i ≡ j  -- a number names one order
   pub noMorePositions : (c : ℕ) → t .n ≤ c → position a c ≡ noPosition  -- a contract that is not there is not held
   pub noMoreHoldings : (u : ℕ) → t .m ≤ u → holding a u ≡ noHolding  -- nor is an underlying
+
+-- a money sheet as a sound account has it: the sums can be added to and available is exact (house)
+pub record SoundSheet (s : Sheet) : Type 0 where
+  pub ceiling : s .cash + s .premium ≤ 1_000_000_000_000_000  -- the ceiling of money
+  pub holds : s .holds ≤ 32 * (100 * 20_000_000_000)  -- 32 orders of 100 contracts, each below 2 x 10^10
+  pub margin : s .margin ≤ 64 * (10_000 * 20_000_000_000)  -- 64 contracts, of each as many as a limit allows
 
 -- sound after every entry of a list: what each of its outcomes leads to (demand 2)
 abbrev pub AllSound : List Outcome → Type 0

@@ -14,6 +14,7 @@ use Rattle.account.specs.Rows.{holding}
 use Rattle.account.specs.Totals.{spareUnits}
 use Rattle.account.specs.Transfers.{depositVerdict, depositChange, withdrawVerdict, withdrawChange}
 use Rattle.account.specs.declared.account.Account.{Account}
+use Rattle.account.specs.declared.judged.Outcome.{Outcome}
 use Rattle.account.specs.declared.judged.Verdict.{Verdict}
 use Rattle.account.specs.declared.judged.Verdict.the-variants.{Accepted, Refused}
 use Rattle.account.specs.declared.tables.Tables.{Tables}
@@ -59,12 +60,6 @@ accountAfter t a (DayEnd n m) f = dayEnded (figuresInstalled t f) a
 accountAfter t a (Underlying row) f = a
 accountAfter t a (Contract row) f = a
 accountAfter t a (Opening cash) f = a
-
--- what an entry leads to (house)
-pub record Outcome : Type 0 where
-  pub verdict : Verdict
-  pub tables : Tables
-  pub account : Account
 
 -- "a refusal leaves the whole account equal" (Refusal numbers)
 abbrev pub outcome : Verdict → Tables → Account → Tables → Account → Outcome

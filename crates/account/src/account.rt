@@ -1,9 +1,12 @@
 // One client's account.
+use crate::judged::Change;
 use terms::Contracts;
 use terms::Position;
 use terms::Units;
 ghost use mathlib.Core.Path.{_≡_};
+ghost use Rattle.account.specs.Changes.{applied};
 ghost use Rattle.account.specs.Opening.{opening};
+ghost use Rattle.account.specs.Rows.{free};
 
 // The money sheet, in fen. Covered premium is what was received today for covered opening.
 pub struct Sheet {
@@ -20,6 +23,20 @@ pub struct Resting {
     pub kind: u16,
     pub left: Contracts,
     pub price: u32,
+}
+
+impl Resting {
+    pub fn free() -> Resting
+        ensures { λ r. ⌜ r ≡ free ⌝ }
+    {
+        Resting {
+            number: 0,
+            contract: 0,
+            kind: 0,
+            left: Contracts(0),
+            price: 0,
+        }
+    }
 }
 
 // What stands for one underlying: its locked units, and how many contracts were bought open today.
@@ -53,18 +70,39 @@ impl Account {
                 short: Contracts(0),
                 covered: Contracts(0),
             }; terms::CONTRACTS],
-            orders: [Resting {
-                number: 0,
-                contract: 0,
-                kind: 0,
-                left: Contracts(0),
-                price: 0,
-            }; terms::PLACES],
+            orders: [Resting::free(); terms::PLACES],
             holdings: [Holding {
                 locked: Units(0),
                 bought: Contracts(0),
             }; terms::UNDERLYINGS],
             last: 0,
         }
+    }
+
+    // The one place that writes a change into an account. A number past the last contract, place or underlying names none: what it
+    // would write is not there.
+    pub fn apply(self, change: Change) -> Account
+        ensures { λ r. ⌜ r ≡ applied self change ⌝ }
+    {
+        let mut after = self;
+        let c = change.contract;
+        let position = change.position;
+        if c < terms::CONTRACTS {
+            after.positions[c] = position;
+        }
+        let i = change.place;
+        let order = change.order;
+        if i < terms::PLACES {
+            after.orders[i] = order;
+        }
+        let u = change.underlying;
+        let holding = change.holding;
+        if u < terms::UNDERLYINGS {
+            after.holdings[u] = holding;
+        }
+        let sheet = change.sheet;
+        after.sheet = sheet;
+        after.last = change.last;
+        after
     }
 }

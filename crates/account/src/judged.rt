@@ -1,12 +1,16 @@
 // What an entry is judged by, the verdict, and what an accepted entry changes.
+use crate::account::Account;
 use crate::account::Holding;
 use crate::account::Resting;
 use crate::account::Sheet;
+use crate::tables::Tables;
 use entries::Underlying;
 use terms::Contracts;
 use terms::Position;
 use terms::Refusal;
 use terms::Units;
+ghost use mathlib.Core.Path.{_≡_};
+ghost use Rattle.account.specs.Changes.{ofSheet, withoutPosition};
 
 pub enum Verdict {
     Accepted,
@@ -59,4 +63,64 @@ pub struct Change {
     pub underlying: usize,
     pub holding: Holding,
     pub last: u32,
+}
+
+impl Change {
+    // A change of the sheet alone.
+    pub fn of_sheet(sheet: Sheet, last: u32) -> Change
+        ensures { λ r. ⌜ r ≡ ofSheet sheet last ⌝ }
+    {
+        let holding = Holding {
+            locked: Units(0),
+            bought: Contracts(0),
+        };
+        Change::without_position(
+            sheet,
+            terms::PLACES,
+            Resting::free(),
+            terms::UNDERLYINGS,
+            holding,
+            last,
+        )
+    }
+
+    // A change that moves no position.
+    pub fn without_position(
+        sheet: Sheet,
+        place: usize,
+        order: Resting,
+        underlying: usize,
+        holding: Holding,
+        last: u32,
+    ) -> Change
+        ensures { λ r. ⌜ r ≡ withoutPosition sheet place order underlying holding last ⌝ }
+    {
+        Change {
+            sheet,
+            contract: terms::CONTRACTS,
+            position: Position {
+                long: Contracts(0),
+                short: Contracts(0),
+                covered: Contracts(0),
+            },
+            place,
+            order,
+            underlying,
+            holding,
+            last,
+        }
+    }
+}
+
+// What is decided about an entry: why it is refused, or what it changes.
+pub enum Decision {
+    Refused(Refusal),
+    Changes(Change),
+}
+
+// What an entry leads to: the verdict, and tables and account after it.
+pub struct Outcome {
+    pub verdict: Verdict,
+    pub tables: Tables,
+    pub account: Account,
 }

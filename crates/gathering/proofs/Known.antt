@@ -28,9 +28,9 @@ use Rattle.account.specs.declared.account.Account.{Account}
 use Rattle.account.specs.declared.tables.Tables.{Tables}
 use Rattle.account.proofs.Bounds.{left-so-far, limits-of, one-hold, order-figures, total-most}
 use Rattle.account.proofs.Allowed.{contract-known, underlying-known}
-use Rattle.gathering.specs.Gathered.{heldIn, workingIn}
-use Rattle.gathering.specs.declared.held.Held.{Held}
-use Rattle.gathering.specs.declared.working.Working.{Working}
+use Rattle.totals.specs.Gathered.{heldIn, workingIn}
+use Rattle.totals.specs.declared.held.Held.{Held}
+use Rattle.totals.specs.declared.working.Working.{Working}
 
 module _ (t : Tables) (a : Account) (o : Order) (sound : Sound t a) (allowed : orderAllowed t o ≡ true) where
   pub there : o .contract < t .n

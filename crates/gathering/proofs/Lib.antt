@@ -1,3 +1,2 @@
--- Laws that the proofs of functions cite: what is known of an allowed order, and signed differences.
+-- What is known of an allowed order, which the proofs of functions cite.
 pub mod Known
-pub mod Signed

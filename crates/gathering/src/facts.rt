@@ -1,9 +1,5 @@
 // The facts of an order.
-use crate::held::held_in;
-use crate::hold::hold_one;
-use crate::money::available;
 use crate::place::free_place;
-use crate::working::working_in;
 use account::Account;
 use account::Facts;
 use account::Holding;
@@ -11,6 +7,8 @@ use account::Sheet;
 use account::Tables;
 use entries::Order;
 use entries::Underlying;
+use money::available;
+use money::hold_one;
 use terms::Class;
 use terms::Contracts;
 use terms::Measure;
@@ -18,6 +16,8 @@ use terms::Position;
 use terms::Right;
 use terms::Side;
 use terms::Units;
+use totals::held_in;
+use totals::working_in;
 ghost use mathlib.Core.Path.{_≡_};
 ghost use mathlib.Core.Bool.{true};
 ghost use Rattle.account.specs.Orders.{coveredPut, factsIn, factsOf, noFacts, orderAllowed};

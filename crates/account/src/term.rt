@@ -1,0 +1,9 @@
+// A term of a sum, which counts only where a test holds.
+ghost use mathlib.Core.Path.{_≡_};
+ghost use Rattle.account.specs.Sums.{_when_};
+
+pub fn counted(x: u64, test: bool) -> u64
+    ensures { λ r. ⌜ r ≡ (x when test) ⌝ }
+{
+    if test { x } else { 0 }
+}

@@ -1,0 +1,98 @@
+// A day end's figures: whether they are allowed, and the tables with them.
+use account::Tables;
+use account::Verdict;
+use entries::Contract;
+use entries::Figures;
+use entries::Underlying;
+use terms::Measure;
+use terms::Refusal;
+ghost use mathlib.Core.Path.{_≡_};
+ghost use Prim.Native.Nat.{_≤_};
+ghost use lib.ListN.{getD, length};
+ghost use Rattle.terms.specs.Ranges.{rangeOf, _∈_};
+ghost use Rattle.account.specs.DayEnd.{dayEndVerdict, every, figuresInstalled};
+ghost use Rattle.account.specs.Sound.{SoundTables};
+
+pub(crate) fn verdict(tables: Tables, n: u16, m: u16, figures: Figures) -> Verdict
+    requires { ⌜ SoundTables tables ⌝ }
+    ensures { λ r. ⌜ r ≡ dayEndVerdict tables n m figures ⌝ }
+{
+    if (n as usize != tables.n) | (m as usize != tables.m) {
+        return Verdict::Refused(Refusal::OutOfRange);
+    }
+    let settlements = figures.settlements;
+    let closes = figures.closes;
+    if all_allowed(&settlements, n as usize, Measure::Settlement)
+        & all_allowed(&closes, m as usize, Measure::Price)
+    {
+        Verdict::Accepted
+    } else {
+        Verdict::Refused(Refusal::OutOfRange)
+    }
+}
+
+// Whether each of the first n prices is in its range.
+fn all_allowed(prices: &[u32], n: usize, measure: Measure) -> bool
+    requires { ⌜ n ≤ length (now prices) ⌝ }
+    ensures { λ r. ⌜ r ≡ every n (λ i. getD (now (prices .entry)) i 0 ∈ rangeOf measure) ⌝ }
+{
+    let mut i = 0;
+    while i < n {
+        if !measure.allows(prices[i] as u64) {
+            return false;
+        }
+        i += 1;
+    }
+    true
+}
+
+// The new figures in the rows that the tables have.
+pub(crate) fn installed(tables: Tables, figures: Figures) -> Tables
+    requires { ⌜ SoundTables tables ⌝ }
+    ensures { λ r. ⌜ r ≡ figuresInstalled tables figures ⌝ }
+{
+    let n = tables.n;
+    let m = tables.m;
+    let contracts = tables.contracts;
+    let underlyings = tables.underlyings;
+    let settlements = figures.settlements;
+    let closes = figures.closes;
+    Tables {
+        underlyings: closed(underlyings, m, closes),
+        m,
+        contracts: settled(contracts, n, settlements),
+        n,
+    }
+}
+
+fn settled(
+    contracts: [Contract; terms::CONTRACTS],
+    n: usize,
+    settlements: [u32; terms::CONTRACTS],
+) -> [Contract; terms::CONTRACTS] {
+    let mut after = contracts;
+    let mut c = 0;
+    while c < n {
+        let mut row = after[c];
+        row.settlement = settlements[c];
+        after[c] = row;
+        c += 1;
+    }
+    after
+}
+
+fn closed(
+    underlyings: [Underlying; terms::UNDERLYINGS],
+    m: usize,
+    closes: [u32; terms::UNDERLYINGS],
+) -> [Underlying; terms::UNDERLYINGS] {
+    let mut after = underlyings;
+    let mut u = 0;
+    while u < m {
+        let mut row = after[u];
+        row.close = closes[u];
+        after[u] = row;
+        u += 1;
+    }
+    after
+}

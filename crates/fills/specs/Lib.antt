@@ -1,0 +1,2 @@
+-- What a fill and a cancel may take off; the rules are in `account`.
+pub mod Takes

@@ -1,0 +1,85 @@
+// A fill: 4, 7, 16, 15, 18, or what it moves.
+use crate::after::moved;
+use crate::after::order_after;
+use crate::after::sheet_after;
+use crate::named::kind_of;
+use crate::named::named_at;
+use crate::named::place_of;
+use account::Account;
+use account::Change;
+use account::Decision;
+use account::Named;
+use account::Tables;
+use entries::Fill;
+use money::premium_one;
+use terms::Measure;
+use terms::OrderKind;
+use terms::Refusal;
+ghost use mathlib.Core.Path.{_≡_};
+ghost use Rattle.account.specs.Changes.{decided};
+ghost use Rattle.account.specs.Fills.{fillChange, fillVerdict, named, paid, priceAllowed};
+ghost use Rattle.account.specs.Money.{kindOf};
+ghost use Rattle.account.specs.Sound.{Sound};
+ghost use Rattle.fills.specs.Takes.{Exact, Fillable};
+
+pub fn fill(tables: Tables, account: Account, fill: Fill) -> Decision
+    requires { ⌜ Sound tables account ⌝ }
+    ensures { λ r. ⌜ r ≡ decided (fillVerdict (named tables account (fill .number)) fill) (fillChange (named tables account (fill .number)) fill) ⌝ }
+{
+    if !(Measure::Quantity.allows(fill.quantity as u64) & Measure::Price.allows(fill.price as u64)) {
+        return Decision::Refused(Refusal::OutOfRange);
+    }
+    let place = place_of(account, fill.number);
+    if place >= terms::PLACES {
+        return Decision::Refused(Refusal::NoSuchOrder);
+    }
+    decide(named_at(tables, account, place), fill)
+}
+
+// The order is there and the fill's values are in their ranges. A sell brings money and may pass the ceiling, a buy pays and may pass cash.
+fn decide(named: Named, fill: Fill) -> Decision
+    requires { ⌜ Fillable named fill ⌝ }
+    ensures { λ r. ⌜ r ≡ decided (fillVerdict named fill) (fillChange named fill) ⌝ }
+{
+    let order = named.order;
+    let sheet = named.sheet;
+    let kind = kind_of(order);
+    let buys = kind.buys();
+    let sum = fill.quantity as u64 * premium_one(fill.price, named.unit);
+    if !((fill.quantity <= order.left.0) & price_allowed(buys, order.price, fill.price)) {
+        return Decision::Refused(Refusal::FillBarred);
+    }
+    if !(buys | Measure::Money.allows(sheet.cash + sheet.premium + sum)) {
+        return Decision::Refused(Refusal::CeilingPassed);
+    }
+    if !(!buys | (sum <= sheet.cash)) {
+        return Decision::Refused(Refusal::CashBelowZero);
+    }
+    Decision::Changes(change(named, kind, fill, sum))
+}
+
+// A buy may not fill above its price nor a sell below it.
+fn price_allowed(buys: bool, limit: u32, price: u32) -> bool
+    ensures { λ r. ⌜ r ≡ priceAllowed buys limit price ⌝ }
+{
+    if buys { price <= limit } else { limit <= price }
+}
+
+fn change(named: Named, kind: OrderKind, fill: Fill, sum: u64) -> Change
+    requires { ⌜ Exact named fill × (kind ≡ kindOf (named .order)) × (sum ≡ paid named fill) ⌝ }
+    ensures { λ r. ⌜ r ≡ fillChange named fill ⌝ }
+{
+    let order = named.order;
+    let position = named.position;
+    let holding = named.holding;
+    Change {
+        sheet: sheet_after(named, kind, fill, sum),
+        contract: order.contract as usize,
+        position: moved(kind.moves(), kind.opens(), fill.quantity, position),
+        place: named.place,
+        order: order_after(order, fill.quantity),
+        underlying: named.underlying as usize,
+        holding,
+        last: named.last,
+    }
+}

@@ -1,0 +1,8 @@
+// Fills and cancels: both name a resting order by its number, and are decided by what stands behind it.
+mod after;
+mod cancelled;
+mod filled;
+mod named;
+
+pub use cancelled::cancel;
+pub use filled::fill;
