@@ -4,6 +4,7 @@ pub mod Available
 pub mod Bounds
 pub mod CancelSound
 pub mod DayEndSound
+pub mod Decided
 pub mod FillSound
 pub mod Flags
 pub mod Holdings

@@ -1,3 +1,2 @@
--- Laws that callers and the proofs of functions cite: booking keeps an account sound; the walk over the table of checks.
-pub mod BookedSound
+-- The walk over the table of checks, which the proof of the verdict cites.
 pub mod Walk

@@ -2,14 +2,13 @@
 use account::Facts;
 use account::Verdict;
 use entries::Order;
+use money::within;
 use terms::Refusal;
 ghost use mathlib.Core.Path.{_≡_};
 ghost use mathlib.Core.List.{map};
 ghost use Prim.Native.Nat.{_+_};
 ghost use lib.Dec.{leb};
-ghost use lib.IntN.{pos};
 ghost use lib.ListN.{getD};
-ghost use lib.Signed.{leZ};
 ghost use Rattle.account.specs.Checks.{Available, columns, orderVerdict, passes, refusalFor};
 
 const COLUMNS: usize = 9;
@@ -73,7 +72,7 @@ const CHECKS: [bool; 54] = [
 ];
 
 // The row of the order's kind is walked from left to right; the first check that is met and fails refuses.
-pub fn decide(facts: Facts, order: Order) -> Verdict
+pub(crate) fn verdict(facts: Facts, order: Order) -> Verdict
     ensures { λ r. ⌜ r ≡ orderVerdict facts order ⌝ }
 {
     let kind = order.kind;
@@ -129,14 +128,4 @@ fn refusal(column: usize) -> Refusal
         7 => Refusal::SpareTooFew,
         _ => Refusal::AvailablePassed,
     }
-}
-
-// Below zero nothing is within reach, not even a hold of 0.
-fn within(hold: u64, available: i64) -> bool
-    ensures { λ r. ⌜ r ≡ leZ (pos hold) available ⌝ }
-{
-    if available < 0 {
-        return false;
-    }
-    hold <= available as u64
 }

@@ -1,36 +1,28 @@
-// An order booked: its facts gathered, the verdict decided on them, the change applied.
-mod apply;
+// An order: its facts gathered, the verdict on them, and what an accepted one changes.
+mod change;
 mod checks;
 
 use account::Account;
+use account::Decision;
 use account::Tables;
 use account::Verdict;
-use apply::apply;
-use apply::change;
-pub use checks::decide;
+use change::change;
+use checks::verdict;
 use entries::Order;
 use gathering::gather;
 ghost use mathlib.Core.Path.{_≡_};
+ghost use Rattle.account.specs.Changes.{decided};
+ghost use Rattle.account.specs.Checks.{orderVerdict};
+ghost use Rattle.account.specs.Orders.{factsOf, orderChange};
 ghost use Rattle.account.specs.Sound.{Sound};
-ghost use Rattle.orders.specs.Booked.{orderBooked};
 
-pub struct Booked {
-    pub verdict: Verdict,
-    pub account: Account,
-}
-
-// A refused order leaves the account as it was.
-pub fn book_order(tables: Tables, account: Account, order: Order) -> Booked
+pub fn order(tables: Tables, account: Account, order: Order) -> Decision
     requires { ⌜ Sound tables account ⌝ }
-    ensures { λ r. ⌜ r ≡ orderBooked tables account order ⌝ }
+    ensures { λ r. ⌜ r ≡ decided (orderVerdict (factsOf tables account order) order) (orderChange (factsOf tables account order) order) ⌝ }
 {
     let facts = gather(tables, account, order);
-    let verdict = decide(facts, order);
-    let Verdict::Accepted = verdict else {
-        return Booked { verdict, account };
-    };
-    Booked {
-        verdict,
-        account: apply(account, change(facts, order)),
+    match verdict(facts, order) {
+        Verdict::Refused(why) => Decision::Refused(why),
+        Verdict::Accepted => Decision::Changes(change(facts, order)),
     }
 }

@@ -1,5 +1,5 @@
 -- `change` meets its contract: each part of the change is built as the definition builds it, and both sums fit since what was there and what comes do.
-use mathlib.Core.Path.{_≡_, refl}
+use mathlib.Core.Path.{_≡_, refl, _∙_}
 use mathlib.Core.Bool.{Bool, true, false}
 use Prim.Native.Nat.{ℕ, _+_, _^_, _<_}
 use native.Mathlib.Omega.{arith}
@@ -13,8 +13,8 @@ use Rattle.account.specs.Orders.{orderChange, withHold}
 use Rattle.account.specs.Sums.{_when_}
 use Rattle.account.specs.Totals.{isKind}
 use Rattle.account.specs.declared.judged.Facts.{Facts}
-use Rattle.orders.proofs.apply.change.Statement.{statement}
-use Rattle.orders.proofs.apply.change.Tie as tie
+use Rattle.orders.proofs.change.change.Statement.{statement}
+use Rattle.orders.proofs.change.change.Tie as tie
 
 -- a term that counts only at times is no more than itself
 most : (before quantity own : ℕ) (test : Bool) → own ≡ (quantity when test) → before + quantity < 2 ^ 32 → before + own < 2 ^ 32
@@ -43,8 +43,9 @@ change-spec =
     (λ c. record { fits = most _ _ _ (eqb (c .before .before .before .before .before .code .result) 1) (c .before .counted .ensures) (c .before .before .before .before .before .before .pre .1) })
     (λ c. search needs)
     (λ c. search needs)
+    (λ c κs. tt)
     (λ c.
-    let args = c .before .before .before .before .before .before .before .before .before .before .args in
-    built (args .facts) (args .order) _ _
-    (c .before .before .before .before .before .before .before .before .before .code .ensures)
-    (c .before .before .before .before .before .counted .ensures)))
+    let counted = c .before .before .before .before .before .before in
+    let code = counted .before .before .before .before in
+    let args = code .before .args in
+    c .without-position .ensures ∙ built (args .facts) (args .order) _ _ (code .code .ensures) (counted .counted .ensures)))

@@ -1,4 +1,4 @@
--- `decide` meets its contract: after each column the rest of the walk still gives the verdict, and the walk by numbers is the definition's.
+-- `verdict` meets its contract: after each column the rest of the walk still gives the verdict, and the walk by numbers is the definition's.
 use mathlib.Core.Path.{_≡_, refl, sym, ap, _∙_}
 use mathlib.Core.Bool.{Bool}
 use mathlib.Core.List.{List, map}
@@ -14,8 +14,8 @@ use Rattle.account.specs.declared.judged.Facts.{Facts}
 use Rattle.account.specs.declared.judged.Verdict.{Verdict}
 use Rattle.account.specs.declared.judged.Verdict.the-variants.{Refused}
 use Rattle.orders.proofs.Walk.{walkAt, walks, refused, goes-on, accepted}
-use Rattle.orders.proofs.checks.decide.Statement.{statement}
-use Rattle.orders.proofs.checks.decide.Tie as tie
+use Rattle.orders.proofs.checks.verdict.Statement.{statement}
+use Rattle.orders.proofs.checks.verdict.Tie as tie
 
 abbrev Inv-loop : tie.InvT-loop
 Inv-loop row passed i₀ i = (i ≤ 9) × (walkAt 9 row passed 0 ≡ walkAt (9 - i) row passed i)
@@ -46,15 +46,15 @@ add-if1 : tie.Need-add-if1 Inv-loop μ-loop
 add-if1 c = record { fits = let inside = placed (c .before .before .before .before .args .order .kind) _ _ (c .before .before .before .code .ensures) (c .loop-test .taken) in omega (arith, inside) }
 
 -- the walk from column 0 with what `passed` gave is the verdict
-verdict : (f : Facts) (o : Order) (code : ℕ) (passed : List Bool) (v : Verdict) → code ≡ kindCode (o .kind) → passed ≡ map (λ check. passes check f o) columns
+judged : (f : Facts) (o : Order) (code : ℕ) (passed : List Bool) (v : Verdict) → code ≡ kindCode (o .kind) → passed ≡ map (λ check. passes check f o) columns
     → v ≡ walkAt 9 (9 * (code - 1)) passed 0 → v ≡ orderVerdict f o
-verdict f o code passed v e p walk = walk ∙ (λ i. walkAt 9 (9 * (e i - 1)) (p i) 0) ∙ walks f o
+judged f o code passed v e p walk = walk ∙ (λ i. walkAt 9 (9 * (e i - 1)) (p i) 0) ∙ walks f o
 
 returns : tie.Need-returns Inv-loop μ-loop
 returns c =
     let loop = c .before .before .before in
     let start = loop .before .before .before in
-    verdict (start .args .facts) (start .args .order) _ _ _ (loop .before .before .code .ensures) (loop .before .passed .ensures)
+    judged (start .args .facts) (start .args .order) _ _ _ (loop .before .before .code .ensures) (loop .before .passed .ensures)
     (ap Refused (c .refusal .ensures) ∙ refused 9 _ _ _ (c .before .before .loop-test .taken) (c .before .if1 .taken) ∙ sym (loop .loop .inv .1))
 
 loop-again : tie.Need-loop-again Inv-loop μ-loop
@@ -65,11 +65,11 @@ loop-again c =
 returns-2 : tie.Need-returns-2 Inv-loop μ-loop
 returns-2 c =
     let start = c .before .before .before .before in
-    verdict (start .args .facts) (start .args .order) _ _ _ (c .before .before .before .code .ensures) (c .before .before .passed .ensures)
+    judged (start .args .facts) (start .args .order) _ _ _ (c .before .before .before .code .ensures) (c .before .before .passed .ensures)
     (accepted 9 _ _ _ (c .loop-test .left) ∙ sym (c .before .loop .inv .1))
 
-pub decide-spec : {M : Type 1} → statement M
-decide-spec =
+pub verdict-spec : {M : Type 1} → statement M
+verdict-spec =
     tie.close
     (tie.spec
     Inv-loop

@@ -1,2 +1,0 @@
--- What booking an order answers; the rules are in `account`.
-pub mod Booked
