@@ -1,0 +1,70 @@
+-- `deposit` meets its contract: its two tests are the definition's, and within the ceiling every sum fits.
+use mathlib.Core.Path.{_≡_, refl, sym, _∙_}
+use mathlib.Core.Bool.{Bool, true}
+use Prim.Native.Nat.{ℕ, _+_, _≤_}
+use native.Mathlib.Omega.{arith}
+use borrow.Author.Needs.{needs}
+use borrow.Author.Tests.{not-true, not-false}
+use Rattle.terms.specs.Ranges.{rangeOf, _∈_}
+use Rattle.terms.specs.declared.measure.Measure.the-variants.{Money, Transfer}
+use Rattle.terms.specs.declared.refusal.Refusal.the-variants.{CeilingPassed, OutOfRange}
+use Rattle.terms.proofs.Ranges.{inside}
+use Rattle.account.specs.Transfers.{depositChange, depositVerdict}
+use Rattle.account.specs.Verdicts.{_else_then_}
+use Rattle.account.specs.declared.account.Sheet.{Sheet}
+use Rattle.account.specs.declared.judged.Verdict.the-variants.{Accepted}
+use Rattle.account.proofs.Decided.{TwoChecks, first-fails, second-fails, both-pass}
+use Rattle.transfers.proofs.cash.deposit.Statement.{statement}
+use Rattle.transfers.proofs.cash.deposit.Tie as tie
+
+are : (s : Sheet) (amount : ℕ)
+    → depositVerdict s amount ≡ ((amount ∈ rangeOf Transfer) else OutOfRange then (s .cash + s .premium + amount ∈ rangeOf Money) else CeilingPassed then Accepted)
+unfolding depositVerdict
+are s amount = refl
+
+abbrev two : (s : Sheet) (amount : ℕ) → TwoChecks (depositVerdict s amount)
+two s amount =
+    record { first = amount ∈ rangeOf Transfer; second = s .cash + s .premium + amount ∈ rangeOf Money; why = OutOfRange; other = CeilingPassed; are = are s amount }
+
+most : (amount : ℕ) (first : Bool) → first ≡ (amount ∈ rangeOf Transfer) → first ≡ true → amount ≤ 10_000_000_000_000
+most amount first range e = inside amount (rangeOf Transfer) (sym range ∙ e) .1
+
+-- the ceiling and the range of a deposit bound every sum of the two
+sum-fits : tie.Need-add-allows-2
+sum-fits c =
+    let ranged = c .before .before in
+    let amount = most (ranged .before .args .amount) _ (ranged .allows .ensures) (not-false _ (c .before .if1 .left)) in
+    record { fits = omega (arith, amount, ranged .before .pre .ceiling) }
+
+cash-fits : tie.Need-add-after
+cash-fits c =
+    let ranged = c .before .before .before .before .before in
+    let amount = most (ranged .before .args .amount) _ (ranged .allows .ensures) (not-false _ (c .before .before .before .before .if1 .left)) in
+    record { fits = omega (arith, amount, ranged .before .pre .ceiling) }
+
+returns-3 : tie.Need-returns-3
+unfolding depositChange
+returns-3 c =
+    let tested = c .before .before .before in
+    let ranged = tested .before .before .before in
+    let args = ranged .before .args in
+    both-pass _ _ (two (args .sheet) (args .amount)) _ (ranged .allows .ensures) _ (tested .allows2 .ensures) (not-false _ (tested .before .before .if1 .left)) (not-false _ (c .before .before .if2 .left)) _ (c .of-sheet .ensures)
+
+pub deposit-spec : {M : Type 1} → statement M
+deposit-spec =
+    tie.close
+    (tie.spec
+    (λ c κs. search needs)
+    (λ c.
+    let args = c .before .before .args in
+    first-fails _ _ (two (args .sheet) (args .amount)) _ (c .before .allows .ensures) (not-true _ (c .if1 .taken)))
+    (λ c. search needs)
+    sum-fits
+    (λ c κs. search needs)
+    (λ c.
+    let ranged = c .before .before .before .before in
+    let args = ranged .before .args in
+    second-fails _ _ (two (args .sheet) (args .amount)) _ (ranged .allows .ensures) _ (c .before .allows2 .ensures) (not-false _ (c .before .before .before .if1 .left)) (not-true _ (c .if2 .taken)))
+    cash-fits
+    (λ c κs. search needs)
+    returns-3)

@@ -1,0 +1,113 @@
+-- `unlock` meets its contract: its two tests are the definition's, spare units being what is neither covered nor reserved, and no more is taken off than is spare.
+use mathlib.Core.Path.{_≡_, refl, sym, ap, _∙_}
+use mathlib.Core.Bool.{Bool, true, false}
+use Prim.Native.Nat.{ℕ, _+_, _-_, _≤_, _<_}
+use native.Mathlib.Omega.{arith}
+use borrow.Author.Needs.{needs}
+use borrow.Author.Tests.{le-leb, lt-leb, not-true, not-false}
+use lib.Dec.{leb}
+use Rattle.terms.specs.declared.refusal.Refusal.the-variants.{SpareTooFew, OutOfRange}
+use Rattle.account.specs.Changes.{decided}
+use Rattle.account.specs.Locks.{unitsAllowed, unlockChange, unlockVerdict}
+use Rattle.account.specs.Rows.{holding}
+use Rattle.account.specs.Sound.{Sound}
+use Rattle.account.specs.Totals.{spareUnits}
+use Rattle.account.specs.Verdicts.{_else_then_}
+use Rattle.account.specs.declared.account.Account.{Account}
+use Rattle.account.specs.declared.judged.Change.{Change}
+use Rattle.account.specs.declared.judged.Decision.{Decision}
+use Rattle.account.specs.declared.judged.Decision.the-variants as Decision·of
+use Rattle.account.specs.declared.judged.Verdict.the-variants.{Accepted}
+use Rattle.account.specs.declared.tables.Tables.{Tables}
+use Rattle.account.proofs.Decided.{TwoChecks, first-fails, second-fails, both-pass}
+use Rattle.totals.specs.Gathered.{heldIn, workingIn}
+use Rattle.totals.specs.declared.held.Held.{Held}
+use Rattle.totals.specs.declared.working.Working.{Working}
+use Rattle.transfers.proofs.Locked.{listed, inside-rows}
+use Rattle.transfers.proofs.units.unlock.Statement.{statement}
+use Rattle.transfers.proofs.units.unlock.Tie as tie
+
+module _ (t : Tables) (a : Account) (u units : ℕ) where
+  are : unlockVerdict t (spareUnits t a u) u units ≡ (unitsAllowed t u units else OutOfRange then leb units (spareUnits t a u .0) else SpareTooFew then Accepted)
+  unfolding unlockVerdict
+  are = refl
+
+  abbrev two : TwoChecks (unlockVerdict t (spareUnits t a u) u units)
+  two = record { first = unitsAllowed t u units; second = leb units (spareUnits t a u .0); why = OutOfRange; other = SpareTooFew; are = are }
+
+  abbrev change : Change
+  change = unlockChange a u units
+
+  abbrev decision : Decision
+  decision = decided (unlockVerdict t (spareUnits t a u) u units) change
+
+  -- what both loops come back with, once the first check has passed
+  module _ (h : Held) (w : Working) (held : h ≡ heldIn t a u) (working : w ≡ workingIn t a u 0 0) (first : Bool) (is : first ≡ unitsAllowed t u units) (passed : first ≡ true) where
+    abbrev spare : ℕ
+    spare = holding a u .locked .0 - h .units - w .reserved
+
+    is-spare : spare ≡ spareUnits t a u .0
+    unfolding spareUnits
+    is-spare = rw (held, working) refl
+
+    within : Sound t a → h .units + w .reserved ≤ holding a u .locked .0
+    within sound = rw (held, working) (sound .units u (listed t a u units sound (sym is ∙ passed)))
+
+    refused : spare < units → Decision·of.Refused SpareTooFew ≡ decision
+    refused less = second-fails _ change two first is false (sym (ap (leb units) (sym is-spare) ∙ lt-leb units spare less)) passed refl
+
+    accepted : units ≤ spare → (made : Change) → made ≡ change → Decision·of.Changes made ≡ decision
+    accepted reach = both-pass _ change two first is true (sym (ap (leb units) (sym is-spare) ∙ le-leb units spare reach)) passed refl
+
+-- what the function knows behind its loops
+module _ (c : tie.After-working-in) where
+  abbrev passed : tie.Else1
+  passed = c .before .before .before
+
+  abbrev start : tie.Start
+  start = passed .before .before
+
+  abbrev left : ℕ
+  left = holding (start .args .t2) (start .args .underlying) .locked .0 - c .before .held-in .result .units - c .working-in .result .reserved
+
+  units-within : c .before .held-in .result .units + c .working-in .result .reserved ≤ holding (start .args .t2) (start .args .underlying) .locked .0
+  units-within =
+      within (start .args .tables) (start .args .t2) (start .args .underlying) (start .args .units) _ _ (c .before .held-in .ensures) (c .working-in .ensures) _ (passed .before .allowed .ensures)
+      (not-false _ (passed .if1 .left))
+      (start .pre)
+
+  too-few : left < start .args .units → Decision·of.Refused SpareTooFew ≡ decision (start .args .tables) (start .args .t2) (start .args .underlying) (start .args .units)
+  too-few =
+      refused (start .args .tables) (start .args .t2) (start .args .underlying) (start .args .units) _ _ (c .before .held-in .ensures) (c .working-in .ensures) _ (passed .before .allowed .ensures)
+      (not-false _ (passed .if1 .left))
+
+  enough : start .args .units ≤ left → (made : Change) → made ≡ unlockChange (start .args .t2) (start .args .underlying) (start .args .units)
+      → Decision·of.Changes made ≡ decision (start .args .tables) (start .args .t2) (start .args .underlying) (start .args .units)
+  enough =
+      accepted (start .args .tables) (start .args .t2) (start .args .underlying) (start .args .units) _ _ (c .before .held-in .ensures) (c .working-in .ensures) _ (passed .before .allowed .ensures)
+      (not-false _ (passed .if1 .left))
+
+returns-3 : tie.Need-returns-3
+unfolding unlockChange
+returns-3 c = enough (c .before .before .before .before .before .before) (c .before .before .if2 .left) _ (c .locking .ensures)
+
+pub unlock-spec : {M : Type 1} → statement M
+unlock-spec =
+    tie.close
+    (tie.spec
+    (λ c κs. search needs)
+    (λ c.
+    let args = c .before .before .args in
+    first-fails _ _ (two (args .tables) (args .t2) (args .underlying) (args .units)) _ (c .before .allowed .ensures) (not-true _ (c .if1 .taken)))
+    (λ c. search needs)
+    (λ c.
+    let start = c .before .before in
+    inside-rows (start .args .tables) (start .args .t2) (start .args .underlying) (start .args .units) (start .pre) (sym (c .before .allowed .ensures) ∙ not-false _ (c .if1 .left)))
+    (λ c κs. search needs)
+    (λ c κs. search needs)
+    (λ c. omega (arith, units-within (c .before .before)))
+    (λ c. omega (arith, units-within (c .before .before .before)))
+    (λ c. too-few (c .before .before .before .before) (c .if2 .taken))
+    (λ c. omega (arith, c .before .if2 .left))
+    (λ c κs. refl)
+    returns-3)
