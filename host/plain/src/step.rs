@@ -123,11 +123,11 @@ impl Desk {
         self.settle(order.kind, money);
         self.move_position(&order, i64::from(fill.quantity));
         let left = order.quantity - fill.quantity;
-        self.account.orders[place] = Some(Order {
+        let rest = Order {
             quantity: left,
             ..order
-        })
-        .filter(|_| 0 < left);
+        };
+        self.account.orders[place] = if left == 0 { None } else { Some(rest) };
         Ok(())
     }
 
