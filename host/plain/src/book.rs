@@ -9,7 +9,7 @@ use crate::terms::{within, Contract, Tables, Underlying, CONTRACTS, UNDERLYINGS}
 #[derive(Clone, Debug, PartialEq, Eq)]
 pub enum Book {
     SettingUp(Tables),
-    Open(Desk),
+    Open(Box<Desk>),
 }
 
 impl Book {
@@ -25,7 +25,7 @@ impl Book {
                 Entry::Contract(row) => add_contract(tables, row),
                 Entry::Opening { cash } => {
                     require(!tables.contracts.is_empty(), 5)?;
-                    *self = Book::Open(Desk::open(tables, *cash)?);
+                    *self = Book::Open(Box::new(Desk::open(tables, *cash)?));
                     Ok(())
                 }
                 _ => Err(5),

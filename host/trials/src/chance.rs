@@ -8,11 +8,11 @@ impl Chance {
     /// Each batch has its own numbers, so that one batch can be made again alone.
     pub fn new(seed: u64, batch: u64) -> Chance {
         let mut chance = Chance(seed);
-        chance.0 = chance.next().wrapping_add(batch.wrapping_mul(STEP));
-        Chance(chance.next())
+        chance.0 = chance.draw().wrapping_add(batch.wrapping_mul(STEP));
+        Chance(chance.draw())
     }
 
-    pub fn next(&mut self) -> u64 {
+    pub fn draw(&mut self) -> u64 {
         self.0 = self.0.wrapping_add(STEP);
         let mut mixed = self.0;
         mixed = (mixed ^ (mixed >> 30)).wrapping_mul(0xbf58_476d_1ce4_e5b9);
@@ -21,7 +21,7 @@ impl Chance {
     }
 
     fn below(&mut self, bound: u64) -> u64 {
-        self.next() % bound
+        self.draw() % bound
     }
 
     /// From the least to the most; the least, where there is nothing between them.
