@@ -1,0 +1,18 @@
+//! Document 01 written once more in ordinary Rust, from the document alone: clear rather than quick, every sum made anew.
+
+pub mod account;
+pub mod book;
+pub mod entry;
+pub mod record;
+pub mod rules;
+pub mod step;
+pub mod terms;
+
+/// Passes on, or gives the paper's refusal number.
+pub fn require(met: bool, refusal: u8) -> Result<(), u8> {
+    if met {
+        Ok(())
+    } else {
+        Err(refusal)
+    }
+}
