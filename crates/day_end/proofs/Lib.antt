@@ -1,0 +1,2 @@
+-- Laws of a pass over rows, which the proofs of the functions cite.
+pub mod Listing
