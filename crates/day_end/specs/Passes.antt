@@ -22,10 +22,10 @@ unfoldable pub changedTo : {A : Type 0} → ℕ → A → (ℕ → A → A) → 
 changedTo size none change rows k = listed size (λ i. cond (ltb i k) (change i (getD rows i none)) (getD rows i none))
 
 -- margin and units of an underlying over the first k contracts, as `marginIn` and `coveredUnits` sum them over all
-abbrev pub marginTo : Tables → List Position → ℕ → ℕ
+unfoldable pub marginTo : Tables → List Position → ℕ → ℕ
 marginTo t ps k = Σ k (λ c. forCount (getD ps c noPosition .short .0) (marginOne t c))
 
-abbrev pub unitsTo : Tables → List Position → ℕ → ℕ → ℕ
+unfoldable pub unitsTo : Tables → List Position → ℕ → ℕ → ℕ
 unitsTo t ps k u = Σ k (λ c. unitsFor (getD ps c noPosition .covered) (contract t c .unit) .0 when isOf t u c)
 
 -- a holding of so many units, nothing bought yet

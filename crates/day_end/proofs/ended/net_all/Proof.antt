@@ -22,10 +22,18 @@ abbrev μ-loop : tie.MeasureT-loop
 μ-loop after₀ c₀ after c = 64 - c
 
 loop-again : tie.Need-loop-again Inv-loop μ-loop
-loop-again c = ?
+loop-again c =
+    let loop = c .before .before .before in
+    let start = loop .before in
+    let turn = one-changed 64 noPosition (λ i. netted) (start .args .positions) (start .pre) (loop .loop .c) (omega arith) _ (loop .loop .inv .1) in
+    (omega arith, ap (set (loop .loop .after) (loop .loop .c)) (c .net .ensures) ∙ turn)
 
 returns : tie.Need-returns Inv-loop μ-loop
-returns c = ?
+returns c =
+    let loop = c .before .loop in
+    let start = c .before .before in
+    let passed : loop .c ≡ 64 = omega arith in
+    loop .inv .1 ∙ ap (changedTo 64 noPosition _ _) passed ∙ each-changed 64 noPosition netted (start .args .positions) (start .pre) nothing-netted
 
 pub net-all-spec : {M : Type 1} → statement M
 net-all-spec =
