@@ -79,47 +79,38 @@ Inv-loop tables positions n holdings₀ c₀ holdings c = (c ≤ tables .n) × (
 abbrev μ-loop : tie.MeasureT-loop
 μ-loop tables positions n holdings₀ c₀ holdings c = tables .n - c
 
-loop-holds : tie.Need-loop-holds Inv-loop μ-loop
-loop-holds c = (omega arith, none _ _)
+-- what is known at a turn
+module _ (loop : tie.At-loop Inv-loop μ-loop) (there : loop .loop .c < loop .before .args .t1 .n) where
+  few : loop .loop .c < 64
+  few = omega (arith, loop .before .pre .tables .fewContracts)
 
-mul-contract : tie.Need-mul-contract Inv-loop μ-loop
-mul-contract c = ?
-
-element-copy-out-contract : tie.Need-element-copy-out-contract Inv-loop μ-loop
-element-copy-out-contract c = ?
-
-mul-position : tie.Need-mul-position Inv-loop μ-loop
-mul-position c = ?
-
-array-copy-out-position : tie.Need-array-copy-out-position Inv-loop μ-loop
-array-copy-out-position c = ?
-
-cast-u : tie.Need-cast-u Inv-loop μ-loop
-cast-u c = search needs
+  inside : contract (loop .before .args .t1) (loop .loop .c) .underlying < 8
+  inside = row-inside _ (loop .before .pre .tables) _ there
 
 mul-with-units : tie.Need-mul-with-units Inv-loop μ-loop
-mul-with-units c = ?
+mul-with-units c = let test = c .before .before .before in omega (arith, inside (test .before) (test .loop-test .taken))
 
 array-copy-out-with-units : tie.Need-array-copy-out-with-units Inv-loop μ-loop
-array-copy-out-with-units c = ?
+array-copy-out-with-units c = let test = c .before .before .before in inside (test .before) (test .loop-test .taken)
 
 with-units-requires : tie.Need-with-units-requires Inv-loop μ-loop
-with-units-requires c κs = ?
+with-units-requires c κs =
+    let test = c .before .before .before .before in
+    let loop = test .before in
+    let there = test .loop-test .taken in
+    fits _ _ _ (inside loop there) _ (loop .loop .inv .1) (loop .before .pre) there
 
 mul-holdings : tie.Need-mul-holdings Inv-loop μ-loop
-mul-holdings c = ?
+mul-holdings c = let test = c .before .before .before .before .before in omega (arith, inside (test .before) (test .loop-test .taken))
 
 array-set-from-holdings : tie.Need-array-set-from-holdings Inv-loop μ-loop
-array-set-from-holdings c = ?
-
-add-c : tie.Need-add-c Inv-loop μ-loop
-add-c c = omega arith
-
-loop-less : tie.Need-loop-less Inv-loop μ-loop
-loop-less c = omega arith
+array-set-from-holdings c = let test = c .before .before .before .before .before in inside (test .before) (test .loop-test .taken)
 
 loop-again : tie.Need-loop-again Inv-loop μ-loop
-loop-again c = (omega arith, ?)
+loop-again c =
+    let test = c .before .before .before .before .before in
+    let loop = test .before in
+    (omega arith, next _ _ _ (inside loop (test .loop-test .taken)) _ (loop .loop .inv .1) _ (c .with-units .ensures))
 
 returns : tie.Need-returns Inv-loop μ-loop
 returns c =
@@ -133,18 +124,18 @@ covering-spec =
     (tie.spec
     Inv-loop
     μ-loop
-    loop-holds
-    mul-contract
-    element-copy-out-contract
-    mul-position
-    array-copy-out-position
-    cast-u
+    (λ c. (omega arith, none _ _))
+    (λ c. omega (arith, few (c .before) (c .loop-test .taken)))
+    (λ c. few (c .before) (c .loop-test .taken))
+    (λ c. omega (arith, few (c .before .before) (c .before .loop-test .taken)))
+    (λ c. few (c .before .before) (c .before .loop-test .taken))
+    (λ c. search needs)
     mul-with-units
     array-copy-out-with-units
     with-units-requires
     mul-holdings
     array-set-from-holdings
-    add-c
-    loop-less
+    (λ c. omega arith)
+    (λ c. omega arith)
     loop-again
     returns)

@@ -5,6 +5,7 @@ use Prim.Native.Nat.{ℕ, _+_, _-_, _≤_, _<_}
 use native.Mathlib.Numerals.{add-one}
 use native.Mathlib.Omega.{arith}
 use borrow.Author.Needs.{needs}
+use borrow.Author.Tests.{not-true, not-false}
 use lib.ListN.{getD}
 use Rattle.terms.specs.Ranges.{rangeOf, _∈_}
 use Rattle.account.specs.DayEnd.{every}
@@ -26,6 +27,9 @@ module _ (test : ℕ → Bool) where
       go false e = refl
       go true e = absurd (false≢true (sym here ∙ each-passes n test e i h))
 
+  all-passed : (i n : ℕ) → i ≡ n → every i test ≡ true → every n test ≡ true
+  all-passed i n e all = subst (λ (k : ℕ). every k test ≡ true) e all
+
 abbrev Inv-loop : tie.InvT-loop
 Inv-loop prices n measure i₀ i = (i ≤ n) × (every i (λ k. getD prices k 0 ∈ rangeOf measure) ≡ true)
 
@@ -35,18 +39,18 @@ abbrev μ-loop : tie.MeasureT-loop
 returns : tie.Need-returns Inv-loop μ-loop
 returns c =
     let read = c .before .before in
-    sym (one-fails _ _ (read .before .before .loop .i) (read .before .loop-test .taken) (sym (c .before .allows .ensures) ∙ ?))
+    sym (one-fails _ _ (read .before .before .loop .i) (read .before .loop-test .taken) (sym (c .before .allows .ensures) ∙ not-true (c .before .allows .result) (c .if1 .taken)))
 
 loop-again : tie.Need-loop-again Inv-loop μ-loop
 loop-again c =
     let loop = c .before .before .before .before in
-    (omega arith, one-more _ (loop .loop .i) (loop .loop .inv .1) (sym (c .before .allows .ensures) ∙ ?))
+    (omega arith, one-more _ (loop .loop .i) (loop .loop .inv .1) (sym (c .before .allows .ensures) ∙ not-false (c .before .allows .result) (c .if1 .left)))
 
 returns-2 : tie.Need-returns-2 Inv-loop μ-loop
 returns-2 c =
     let loop = c .before in
     let passed : loop .loop .i ≡ loop .before .before .args .n = omega arith in
-    sym (subst (λ (n : ℕ). every n _ ≡ true) passed (loop .loop .inv .1))
+    sym (all-passed _ _ _ passed (loop .loop .inv .1))
 
 pub all-allowed-spec : {M : Type 1} → statement M
 all-allowed-spec =

@@ -11,7 +11,16 @@ use Rattle.day_end.proofs.figures.with_closes.Reads as with-closes-read
 use Rattle.day_end.proofs.figures.with_settlements.Reads as with-settlements-reads
 
 returns : tie.Need-returns
-returns c = ?
+unfolding figuresInstalled changedTo
+returns c =
+    let start = c .before .before .before .before .before .before in
+    λ i.
+    record {
+      underlyings = c .before .with-closes .ensures i;
+      m = start .args .tables .m;
+      contracts = c .with-settlements .ensures i;
+      n = start .args .tables .n;
+    }
 
 pub installed-spec : {M : Type 1} → statement M
 installed-spec = tie.close (tie.spec (λ c κs. search needs) (λ c κs. search needs) returns)
