@@ -58,13 +58,26 @@ module _ (t : Tables) (a : Account) where
         → record { sheet = record { cash = a .sheet .cash + a .sheet .premium; premium = 0; holds = 0; margin = margin }; positions = ps; orders = replicate 32 empty; holdings = holdings; last = a .last }
         ≡ dayEnded t a
     unfolding dayEnded unitsReleased dailyZero premiumJoined marginAfresh positionsNetted ordersCancelled marginIn marginTo
-    put-together empty none = ?
+    put-together empty none =
+        let worked-netted = worked ∙ ap (λ (ps : List Position). marginTo t ps (t .n)) positioned in
+        let covered-netted = covered ∙ ap (λ (ps : List Position). holdingsTo t ps (t .n)) positioned ∙ sym holdings-after in
+        λ i.
+        record {
+          sheet = record { cash = a .sheet .cash + a .sheet .premium; premium = 0; holds = 0; margin = worked-netted i };
+          positions = positioned i;
+          orders = replicate 32 (none i);
+          holdings = covered-netted i;
+          last = a .last;
+        }
 
 add-t6 : tie.Need-add-t6
-add-t6 c = ?
+add-t6 c = let start = c .before .before .before .before in record { fits = omega (arith, money _ _ (start .pre)) }
 
 returns : tie.Need-returns
-returns c = ?
+returns c =
+    let margin = c .before .before in
+    let net = margin .before .before .before in
+    put-together _ _ _ _ _ (net .net-all .ensures) (margin .margin-in .ensures) (c .covering .ensures) _ (c .before .free .ensures)
 
 pub ended-spec : {M : Type 1} → statement M
 ended-spec =

@@ -35,11 +35,14 @@ none-wrong true true h = (refl, refl)
 module _ (t : Tables) (n m : ℕ) (f : Figures) where
   miscounted : (not (eqb n (t .n)) || not (eqb m (t .m))) ≡ true → Refused OutOfRange ≡ dayEndVerdict t n m f
   unfolding dayEndVerdict
-  miscounted wrong = one-wrong _ _ _ _ wrong
+  miscounted wrong = one-wrong (eqb n (t .n)) (eqb m (t .m)) _ _ wrong
 
   module _ (right : (not (eqb n (t .n)) || not (eqb m (t .m))) ≡ false) where
+    both : (eqb n (t .n) ≡ true) × (eqb m (t .m) ≡ true)
+    both = none-wrong (eqb n (t .n)) (eqb m (t .m)) right
+
     same : (n ≡ t .n) × (m ≡ t .m)
-    same = let both = none-wrong _ _ right in (eqb-true _ _ (both .0), eqb-true _ _ (both .1))
+    same = (eqb-true _ _ (both .0), eqb-true _ _ (both .1))
 
     tested : (settlements closes answer : Bool)
         → settlements ≡ every n (λ c. settlementOf f c ∈ rangeOf Settlement)
@@ -48,7 +51,6 @@ module _ (t : Tables) (n m : ℕ) (f : Figures) where
         → (answer else OutOfRange then Accepted) ≡ dayEndVerdict t n m f
     unfolding dayEndVerdict
     tested settlements closes answer all every-close e =
-        let both = none-wrong _ _ right in
         ap (λ (b : Bool). b else OutOfRange then Accepted) (sym e)
         ∙ (λ i. sym (both .0) i && sym (both .1) i && all i && every-close i else OutOfRange then Accepted)
 
