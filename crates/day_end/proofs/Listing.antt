@@ -1,5 +1,5 @@
 -- A list of n rows is what is listed row by row, since it is told by its length and its rows; so a pass that sets one row after the other has listed the rows so far.
-use mathlib.Core.Path.{_≡_, refl, sym, ap, subst, _∙_}
+use mathlib.Core.Path.{_≡_, sym, ap, _∙_}
 use mathlib.Core.Logic.{_≢_}
 use mathlib.Core.Bool.{Bool, cond}
 use mathlib.Core.List.{List, map}

@@ -1,9 +1,6 @@
 -- The positions of a sound account are summed as the account's own margin and covered units are, so their sums stay as small.
-use mathlib.Core.Path.{_≡_, sym, subst}
-use mathlib.Core.List.{List}
 use Prim.Native.Nat.{ℕ, _<_}
 use native.Mathlib.Omega.{arith}
-use Rattle.terms.specs.declared.count.Position.{Position}
 use Rattle.account.specs.Rows.{contract}
 use Rattle.account.specs.Sound.{SoundTables, Sound}
 use Rattle.account.specs.declared.account.Account.{Account}

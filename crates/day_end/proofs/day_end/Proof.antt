@@ -1,5 +1,5 @@
 -- `day_end` meets its contract: a refusal leaves tables and account equal, and an accepted day end leaves a sound account, so what it sums fits.
-use mathlib.Core.Path.{_≡_, refl, sym, ap, subst, _∙_}
+use mathlib.Core.Path.{_≡_, refl, sym, subst, _∙_}
 use Prim.Native.Nat.{ℕ}
 use borrow.Author.Needs.{needs}
 use Rattle.terms.specs.declared.refusal.Refusal.{Refusal}
@@ -14,11 +14,6 @@ use Rattle.account.specs.declared.tables.Tables.{Tables}
 use Rattle.account.proofs.DayEndSound.{day-end-sound}
 use Rattle.day_end.proofs.day_end.Statement.{statement}
 use Rattle.day_end.proofs.day_end.Tie as tie
-use Rattle.day_end.proofs.day_end.Reads as reads
-use Rattle.day_end.proofs.day_end.Lts as lts
-use Rattle.day_end.proofs.ended.ended.Reads as ended-reads
-use Rattle.day_end.proofs.figures.installed.Reads as installed-reads
-use Rattle.day_end.proofs.figures.verdict.Reads as verdict-reads
 
 module _ (t : Tables) (a : Account) (n m : ℕ) (f : Figures) (v : Verdict) (decided : v ≡ dayEndVerdict t n m f) where
   kept : (why : Refusal) → v ≡ Refused why → record { verdict = v; tables = t; account = a } ≡ outcome (dayEndVerdict t n m f) t a (figuresInstalled t f) (dayEnded (figuresInstalled t f) a)

@@ -1,8 +1,8 @@
 -- `covering` meets its contract: a contract's units join its underlying's, and no other underlying's.
-use mathlib.Core.Path.{_≡_, refl, sym, ap, subst, _∙_}
+use mathlib.Core.Path.{_≡_, refl, sym, ap, _∙_}
 use mathlib.Core.Bool.{Bool}
 use mathlib.Core.List.{List}
-use Prim.Native.Nat.{ℕ, _+_, _-_, _*_, _^_, _≤_, _<_}
+use Prim.Native.Nat.{ℕ, _+_, _-_, _^_, _≤_, _<_}
 use native.Mathlib.Numerals.{add-one}
 use native.Mathlib.Omega.{arith}
 use borrow.Author.Needs.{needs}
@@ -22,9 +22,6 @@ use Rattle.day_end.proofs.Listing.{listed-set}
 use Rattle.day_end.proofs.Summed.{row-inside}
 use Rattle.day_end.proofs.ended.covering.Statement.{statement}
 use Rattle.day_end.proofs.ended.covering.Tie as tie
-use Rattle.day_end.proofs.ended.covering.Reads as reads
-use Rattle.day_end.proofs.ended.covering.Lts as lts
-use Rattle.day_end.proofs.ended.with_units.Reads as with-units-reads
 
 module _ (t : Tables) (ps : List Position) where
   -- the contract at k: how many of it are covered, and its underlying
@@ -87,24 +84,12 @@ module _ (loop : tie.At-loop Inv-loop μ-loop) (there : loop .loop .c < loop .be
   inside : contract (loop .before .args .t1) (loop .loop .c) .underlying < 8
   inside = row-inside _ (loop .before .pre .tables) _ there
 
-mul-with-units : tie.Need-mul-with-units Inv-loop μ-loop
-mul-with-units c = let test = c .before .before .before in omega (arith, inside (test .before) (test .loop-test .taken))
-
-array-copy-out-with-units : tie.Need-array-copy-out-with-units Inv-loop μ-loop
-array-copy-out-with-units c = let test = c .before .before .before in inside (test .before) (test .loop-test .taken)
-
 with-units-requires : tie.Need-with-units-requires Inv-loop μ-loop
 with-units-requires c κs =
     let test = c .before .before .before .before in
     let loop = test .before in
     let there = test .loop-test .taken in
     fits _ _ _ (inside loop there) _ (loop .loop .inv .1) (loop .before .pre) there
-
-mul-holdings : tie.Need-mul-holdings Inv-loop μ-loop
-mul-holdings c = let test = c .before .before .before .before .before in omega (arith, inside (test .before) (test .loop-test .taken))
-
-array-set-from-holdings : tie.Need-array-set-from-holdings Inv-loop μ-loop
-array-set-from-holdings c = let test = c .before .before .before .before .before in inside (test .before) (test .loop-test .taken)
 
 loop-again : tie.Need-loop-again Inv-loop μ-loop
 loop-again c =
@@ -127,14 +112,14 @@ covering-spec =
     (λ c. (omega arith, none _ _))
     (λ c. omega (arith, few (c .before) (c .loop-test .taken)))
     (λ c. few (c .before) (c .loop-test .taken))
-    (λ c. omega (arith, few (c .before .before) (c .before .loop-test .taken)))
-    (λ c. few (c .before .before) (c .before .loop-test .taken))
+    (λ c. let test = c .before in omega (arith, few (test .before) (test .loop-test .taken)))
+    (λ c. let test = c .before in few (test .before) (test .loop-test .taken))
     (λ c. search needs)
-    mul-with-units
-    array-copy-out-with-units
+    (λ c. let test = c .before .before .before in omega (arith, inside (test .before) (test .loop-test .taken)))
+    (λ c. let test = c .before .before .before in inside (test .before) (test .loop-test .taken))
     with-units-requires
-    mul-holdings
-    array-set-from-holdings
+    (λ c. let test = c .before .before .before .before .before in omega (arith, inside (test .before) (test .loop-test .taken)))
+    (λ c. let test = c .before .before .before .before .before in inside (test .before) (test .loop-test .taken))
     (λ c. omega arith)
     (λ c. omega arith)
     loop-again

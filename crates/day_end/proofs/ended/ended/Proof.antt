@@ -1,7 +1,7 @@
 -- `ended` meets its contract: margin and the units that cover are summed over the netted positions, and put together they are the account of the definition.
 use mathlib.Core.Path.{_≡_, refl, sym, ap, subst, _∙_}
 use mathlib.Core.List.{List, map}
-use Prim.Native.Nat.{ℕ, _+_, _≤_, _<_}
+use Prim.Native.Nat.{ℕ, _+_, _≤_}
 use native.Mathlib.Omega.{arith}
 use borrow.Author.Needs.{needs}
 use lib.ListN.{length, length-map, replicate}
@@ -22,12 +22,6 @@ use Rattle.day_end.proofs.Listing.{listed-is}
 use Rattle.day_end.proofs.Summed.{positions-summed}
 use Rattle.day_end.proofs.ended.ended.Statement.{statement}
 use Rattle.day_end.proofs.ended.ended.Tie as tie
-use Rattle.day_end.proofs.ended.ended.Reads as reads
-use Rattle.day_end.proofs.ended.ended.Lts as lts
-use Rattle.account.proofs.account.Resting.free.Reads as free-reads
-use Rattle.day_end.proofs.ended.covering.Reads as covering-reads
-use Rattle.day_end.proofs.ended.margin_in.Reads as margin-in-reads
-use Rattle.day_end.proofs.ended.net_all.Reads as net-all-reads
 
 module _ (t : Tables) (a : Account) where
   positions-after : dayEnded t a .positions ≡ map netted (a .positions)

@@ -1,5 +1,5 @@
 -- `margin_in` meets its contract: each turn adds one contract's margin, which is what is charged since its figures are in their ranges.
-use mathlib.Core.Path.{_≡_, refl, sym, ap, _∙_}
+use mathlib.Core.Path.{_≡_, refl, ap, _∙_}
 use mathlib.Core.List.{List}
 use Prim.Native.Nat.{ℕ, _+_, _-_, _*_, _≤_, _<_}
 use native.Mathlib.Numerals.{add-one}
@@ -19,9 +19,6 @@ use Rattle.day_end.specs.Passes.{Summed, marginTo}
 use Rattle.day_end.proofs.Summed.{row-inside}
 use Rattle.day_end.proofs.ended.margin_in.Statement.{statement}
 use Rattle.day_end.proofs.ended.margin_in.Tie as tie
-use Rattle.day_end.proofs.ended.margin_in.Reads as reads
-use Rattle.day_end.proofs.ended.margin_in.Lts as lts
-use Rattle.money.proofs.margin_one.Reads as margin-one-reads
 
 module _ (t : Tables) (ps : List Position) where
   none : 0 ≡ marginTo t ps 0
@@ -32,15 +29,14 @@ module _ (t : Tables) (ps : List Position) where
   unfolding marginTo Σ forCount
   one-more k = rw add-one refl
 
-  module _ (summed : Summed t ps) (k : ℕ) (there : k < t .n) where
-    module _ (sum one : ℕ) (so-far : sum ≡ marginTo t ps k) (charged : one ≡ marginCharged (contract t k) (underlying t (contract t k .underlying))) where
-      next : sum + getD ps k noPosition .short .0 * one ≡ marginTo t ps (k + 1)
-      next =
-          let margin = charged ∙ margin-charged _ _ (figures-allowed (summed .tables) k there) in
-          (λ i. so-far i + getD ps k noPosition .short .0 * margin i) ∙ one-more k
+  module _ (summed : Summed t ps) (k : ℕ) (there : k < t .n) (sum one : ℕ) (so-far : sum ≡ marginTo t ps k) (charged : one ≡ marginCharged (contract t k) (underlying t (contract t k .underlying))) where
+    next : sum + getD ps k noPosition .short .0 * one ≡ marginTo t ps (k + 1)
+    next =
+        let margin = charged ∙ margin-charged _ _ (figures-allowed (summed .tables) k there) in
+        (λ i. so-far i + getD ps k noPosition .short .0 * margin i) ∙ one-more k
 
-      most : sum + getD ps k noPosition .short .0 * one ≤ 64 * (10_000 * 20_000_000_000)
-      most = rw next (summed .margin (k + 1) (omega arith))
+    most : sum + getD ps k noPosition .short .0 * one ≤ 64 * (10_000 * 20_000_000_000)
+    most = rw next (summed .margin (k + 1) (omega arith))
 
 abbrev Inv-loop : tie.InvT-loop
 Inv-loop tables positions n sum₀ c₀ sum c = (c ≤ tables .n) × (sum ≡ marginTo tables positions c)
@@ -48,35 +44,30 @@ Inv-loop tables positions n sum₀ c₀ sum c = (c ≤ tables .n) × (sum ≡ ma
 abbrev μ-loop : tie.MeasureT-loop
 μ-loop tables positions n sum₀ c₀ sum c = tables .n - c
 
--- the row of the contract's underlying is inside the table
-inside : (loop : tie.At-loop Inv-loop μ-loop) → loop .loop .c < loop .before .args .t1 .n → contract (loop .before .args .t1) (loop .loop .c) .underlying < 8
-inside loop there = row-inside _ (loop .before .pre .tables) _ there
+-- what is known at a turn
+module _ (loop : tie.At-loop Inv-loop μ-loop) (there : loop .loop .c < loop .before .args .t1 .n) where
+  few : loop .loop .c < 64
+  few = omega (arith, loop .before .pre .tables .fewContracts)
 
-mul-row : tie.Need-mul-row Inv-loop μ-loop
-mul-row c = omega (arith, inside (c .before .before .before) (c .before .before .loop-test .taken))
-
-element-copy-out-row : tie.Need-element-copy-out-row Inv-loop μ-loop
-element-copy-out-row c = inside (c .before .before .before) (c .before .before .loop-test .taken)
-
-mul-sum : tie.Need-mul-sum Inv-loop μ-loop
-mul-sum c =
-    let loop = c .before .before .before .before .before .before .before in
-    let start = loop .before in
-    let few = most (start .args .t1) (start .args .t2) (start .pre) (loop .loop .c) (c .before .before .before .before .before .before .loop-test .taken) _ _ (loop .loop .inv .1) (c .margin-one .ensures) in
-    record { fits = omega (arith, few) }
+  inside : contract (loop .before .args .t1) (loop .loop .c) .underlying < 8
+  inside = row-inside _ (loop .before .pre .tables) _ there
 
 add-sum : tie.Need-add-sum Inv-loop μ-loop
 add-sum c =
-    let loop = c .before .before .before .before .before .before .before in
-    let start = loop .before in
-    let few = most (start .args .t1) (start .args .t2) (start .pre) (loop .loop .c) (c .before .before .before .before .before .before .loop-test .taken) _ _ (loop .loop .inv .1) (c .margin-one .ensures) in
+    let test = c .before .before .before .before .before .before in
+    let loop = test .before in
+    let few = most _ (loop .before .args .t2) (loop .before .pre) (loop .loop .c) (test .loop-test .taken) _ _ (loop .loop .inv .1) (c .margin-one .ensures) in
     record { fits = omega (arith, few) }
+
+-- a term is no more than the sum with it
+mul-sum : tie.Need-mul-sum Inv-loop μ-loop
+mul-sum c = omega (arith, add-sum c)
 
 loop-again : tie.Need-loop-again Inv-loop μ-loop
 loop-again c =
-    let loop = c .before .before .before .before .before .before .before in
-    let start = loop .before in
-    (omega arith, next (start .args .t1) (start .args .t2) (start .pre) (loop .loop .c) (c .before .before .before .before .before .before .loop-test .taken) _ _ (loop .loop .inv .1) (c .margin-one .ensures))
+    let test = c .before .before .before .before .before .before in
+    let loop = test .before in
+    (omega arith, next _ (loop .before .args .t2) (loop .before .pre) (loop .loop .c) (test .loop-test .taken) _ _ (loop .loop .inv .1) (c .margin-one .ensures))
 
 returns : tie.Need-returns Inv-loop μ-loop
 returns c =
@@ -91,13 +82,13 @@ margin-in-spec =
     Inv-loop
     μ-loop
     (λ c. (omega arith, none _ _))
-    (λ c. omega (arith, c .before .before .pre .tables .fewContracts))
-    (λ c. omega (arith, c .before .before .pre .tables .fewContracts))
+    (λ c. omega (arith, few (c .before) (c .loop-test .taken)))
+    (λ c. few (c .before) (c .loop-test .taken))
     (λ c. search needs)
-    mul-row
-    element-copy-out-row
-    (λ c. omega (arith, c .before .before .before .before .before .pre .tables .fewContracts))
-    (λ c. omega (arith, c .before .before .before .before .before .pre .tables .fewContracts))
+    (λ c. let test = c .before .before in omega (arith, inside (test .before) (test .loop-test .taken)))
+    (λ c. let test = c .before .before in inside (test .before) (test .loop-test .taken))
+    (λ c. let test = c .before .before .before in omega (arith, few (test .before) (test .loop-test .taken)))
+    (λ c. let test = c .before .before .before in few (test .before) (test .loop-test .taken))
     (λ c. search needs)
     (λ c κs. search needs)
     mul-sum

@@ -1,6 +1,6 @@
 -- `net_all` meets its contract: each turn nets the next position.
-use mathlib.Core.Path.{_≡_, ap, sym, _∙_}
-use Prim.Native.Nat.{ℕ, _-_, _≤_}
+use mathlib.Core.Path.{_≡_, ap, _∙_}
+use Prim.Native.Nat.{_-_, _≤_}
 use native.Mathlib.Omega.{arith}
 use borrow.Author.Needs.{needs}
 use lib.ListN.{set}
@@ -11,9 +11,6 @@ use Rattle.day_end.specs.Passes.{changedTo}
 use Rattle.day_end.proofs.Listing.{none-changed, one-changed, each-changed}
 use Rattle.day_end.proofs.ended.net_all.Statement.{statement}
 use Rattle.day_end.proofs.ended.net_all.Tie as tie
-use Rattle.day_end.proofs.ended.net_all.Reads as reads
-use Rattle.day_end.proofs.ended.net_all.Lts as lts
-use Rattle.rules.proofs.net.Reads as net-reads
 
 abbrev Inv-loop : tie.InvT-loop
 Inv-loop after₀ c₀ after c = (c ≤ 64) × (after ≡ changedTo 64 noPosition (λ i. netted) after₀ c)

@@ -4,7 +4,6 @@ use Prim.Native.Nat.{_+_}
 use native.Mathlib.Omega.{arith}
 use borrow.Author.Needs.{needs}
 use Rattle.terms.specs.declared.count.Units.{Units}
-use Rattle.account.specs.declared.account.Holding.{Holding}
 use Rattle.day_end.proofs.ended.with_units.Statement.{statement}
 use Rattle.day_end.proofs.ended.with_units.Tie as tie
 

@@ -1,6 +1,6 @@
 -- `all_allowed` meets its contract: as long as each price passed is in the range, every one so far is; one that is not settles the answer.
-use mathlib.Core.Path.{_≡_, refl, sym, ap, subst, _∙_}
-use mathlib.Core.Bool.{Bool, true, false, _&&_, false≢true}
+use mathlib.Core.Path.{_≡_, refl, sym, subst, _∙_}
+use mathlib.Core.Bool.{Bool, true, false, false≢true}
 use Prim.Native.Nat.{ℕ, _+_, _-_, _≤_, _<_}
 use native.Mathlib.Numerals.{add-one}
 use native.Mathlib.Omega.{arith}
@@ -12,9 +12,6 @@ use Rattle.account.specs.DayEnd.{every}
 use Rattle.account.proofs.Listed.{each-passes}
 use Rattle.day_end.proofs.figures.all_allowed.Statement.{statement}
 use Rattle.day_end.proofs.figures.all_allowed.Tie as tie
-use Rattle.day_end.proofs.figures.all_allowed.Reads as reads
-use Rattle.day_end.proofs.figures.all_allowed.Lts as lts
-use Rattle.terms.proofs.measure.Measure.allows.Reads as allows-reads
 
 module _ (test : ℕ → Bool) where
   one-more : (i : ℕ) → every i test ≡ true → test i ≡ true → every (i + 1) test ≡ true

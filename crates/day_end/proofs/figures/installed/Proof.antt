@@ -1,14 +1,9 @@
 -- `installed` meets its contract: contracts and underlyings each have the new figures in the rows that the tables have, and the counts stay.
-use mathlib.Core.Path.{_≡_}
 use borrow.Author.Needs.{needs}
 use Rattle.account.specs.DayEnd.{figuresInstalled}
 use Rattle.day_end.specs.Passes.{changedTo}
 use Rattle.day_end.proofs.figures.installed.Statement.{statement}
 use Rattle.day_end.proofs.figures.installed.Tie as tie
-use Rattle.day_end.proofs.figures.installed.Reads as reads
-use Rattle.day_end.proofs.figures.installed.Lts as lts
-use Rattle.day_end.proofs.figures.with_closes.Reads as with-closes-reads
-use Rattle.day_end.proofs.figures.with_settlements.Reads as with-settlements-reads
 
 returns : tie.Need-returns
 unfolding figuresInstalled changedTo

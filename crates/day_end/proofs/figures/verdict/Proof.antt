@@ -1,7 +1,7 @@
 -- `verdict` meets its contract: where both counts are the tables' each price is tested, and where one is not nothing else is.
-use mathlib.Core.Path.{_≡_, refl, sym, ap, subst, _∙_}
-use mathlib.Core.Bool.{Bool, true, false, not, cond, _&&_, _||_, false≢true}
-use Prim.Native.Nat.{ℕ, _≤_}
+use mathlib.Core.Path.{_≡_, refl, sym, ap, _∙_}
+use mathlib.Core.Bool.{Bool, true, false, not, _&&_, _||_, false≢true}
+use Prim.Native.Nat.{ℕ}
 use native.Mathlib.Omega.{arith}
 use borrow.Author.Needs.{needs}
 use borrow.Author.Tests.{eqb-true}
@@ -12,14 +12,10 @@ use Rattle.terms.specs.declared.refusal.Refusal.the-variants.{OutOfRange}
 use Rattle.entries.specs.declared.entry.Figures.{Figures}
 use Rattle.account.specs.DayEnd.{every, settlementOf, closeOf, dayEndVerdict}
 use Rattle.account.specs.Verdicts.{_else_then_}
-use Rattle.account.specs.declared.judged.Verdict.{Verdict}
 use Rattle.account.specs.declared.judged.Verdict.the-variants.{Accepted, Refused}
 use Rattle.account.specs.declared.tables.Tables.{Tables}
 use Rattle.day_end.proofs.figures.verdict.Statement.{statement}
 use Rattle.day_end.proofs.figures.verdict.Tie as tie
-use Rattle.day_end.proofs.figures.verdict.Reads as reads
-use Rattle.day_end.proofs.figures.verdict.Lts as lts
-use Rattle.day_end.proofs.figures.all_allowed.Reads as all-allowed-reads
 
 -- two counts, one of which is wrong, or neither
 one-wrong : (p q r s : Bool) → (not p || not q) ≡ true → Refused OutOfRange ≡ (p && q && r && s else OutOfRange then Accepted)

@@ -1,6 +1,6 @@
 -- `with_settlements` meets its contract: each turn puts the next settlement into its row, and the rows past the last stay.
 use mathlib.Core.Path.{_≡_, ap, _∙_}
-use Prim.Native.Nat.{ℕ, _-_, _≤_}
+use Prim.Native.Nat.{_-_, _≤_}
 use native.Mathlib.Omega.{arith}
 use lib.ListN.{getD}
 use Rattle.account.specs.DayEnd.{settled}
