@@ -31,7 +31,7 @@ use Rattle.account.proofs.NoOrders.{NoOrders, no-orders}
 use Rattle.account.proofs.Sums.{Σ-none}
 
 -- a holding of so many units, nothing bought yet
-abbrev covering : ℕ → Holding
+abbrev pub covering : ℕ → Holding
 covering units = record { locked = record { 0 = units }; bought = record { 0 = 0 } }
 
 zeroed : (a : Account) (u : ℕ) → u < 8 → holding (dailyZero a) u ≡ covering (holding a u .locked .0)
@@ -57,7 +57,7 @@ record Ended (t : Tables) (a b : Account) : Type 0 where
   holding : (u : ℕ) → u < 8 → holding b u ≡ covering (coveredUnits t b u)
 
 module _ (t : Tables) (a : Account) where
-  holding-after : (u : ℕ) → u < 8 → holding (dayEnded t a) u ≡ covering (coveredUnits t (dayEnded t a) u)
+  pub holding-after : (u : ℕ) → u < 8 → holding (dayEnded t a) u ≡ covering (coveredUnits t (dayEnded t a) u)
   unfolding dayEnded
   holding-after u within =
       let joined = premiumJoined (marginAfresh t (positionsNetted (ordersCancelled a))) in

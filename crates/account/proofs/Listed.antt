@@ -13,7 +13,7 @@ use lib.Seq.{getD-at}
 use Rattle.terms.proofs.Ranges.{first-holds, second-holds}
 use Rattle.account.specs.DayEnd.{listed, every}
 
-listed-length : {A : Type 0} (n : ℕ) (f : ℕ → A) → length (listed n f) ≡ n
+pub listed-length : {A : Type 0} (n : ℕ) (f : ℕ → A) → length (listed n f) ≡ n
 listed-length zero f = refl
 listed-length (suc n) f = omega (arith, length-append (listed n f) (f n ∷ []), listed-length n f)
 

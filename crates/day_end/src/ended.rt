@@ -11,9 +11,12 @@ use terms::Position;
 use terms::Units;
 ghost use mathlib.Core.Path.{_≡_};
 ghost use mathlib.Core.List.{map};
+ghost use Prim.Native.Nat.{_^_, _<_};
+ghost use lib.ListN.{length};
 ghost use Rattle.rules.specs.Netting.{netted};
 ghost use Rattle.account.specs.DayEnd.{dayEnded};
 ghost use Rattle.account.specs.Sound.{Sound};
+ghost use Rattle.day_end.specs.Passes.{Summed, holdingsTo, marginTo, withUnits};
 
 // Orders are cancelled and their holds freed, positions netted, margin worked at the new figures; covered premium joins cash, daily
 // counts are zero, and the units that cover stay locked.
@@ -22,7 +25,7 @@ pub(crate) fn ended(tables: Tables, account: Account) -> Account
     ensures { λ r. ⌜ r ≡ dayEnded tables account ⌝ }
 {
     let before = account.positions;
-    let positions = netted(before);
+    let positions = net_all(before);
     let sheet = account.sheet;
     Account {
         sheet: Sheet {
@@ -38,7 +41,8 @@ pub(crate) fn ended(tables: Tables, account: Account) -> Account
     }
 }
 
-fn netted(positions: [Position; terms::CONTRACTS]) -> [Position; terms::CONTRACTS]
+fn net_all(positions: [Position; terms::CONTRACTS]) -> [Position; terms::CONTRACTS]
+    requires { ⌜ length positions ≡ 64 ⌝ }
     ensures { λ r. ⌜ r ≡ map netted positions ⌝ }
 {
     let mut after = positions;
@@ -50,7 +54,10 @@ fn netted(positions: [Position; terms::CONTRACTS]) -> [Position; terms::CONTRACT
     after
 }
 
-fn margin_in(tables: Tables, positions: [Position; terms::CONTRACTS]) -> u64 {
+fn margin_in(tables: Tables, positions: [Position; terms::CONTRACTS]) -> u64
+    requires { ⌜ Summed tables positions ⌝ }
+    ensures { λ r. ⌜ r ≡ marginTo tables positions (tables .n) ⌝ }
+{
     let n = tables.n;
     let mut sum = 0;
     let mut c = 0;
@@ -65,10 +72,14 @@ fn margin_in(tables: Tables, positions: [Position; terms::CONTRACTS]) -> u64 {
     sum
 }
 
+// The units that cover, found in one pass: each contract's are locked for its underlying.
 fn covering(
     tables: Tables,
     positions: [Position; terms::CONTRACTS],
-) -> [Holding; terms::UNDERLYINGS] {
+) -> [Holding; terms::UNDERLYINGS]
+    requires { ⌜ Summed tables positions ⌝ }
+    ensures { λ r. ⌜ r ≡ holdingsTo tables positions (tables .n) ⌝ }
+{
     let n = tables.n;
     let mut holdings = [Holding {
         locked: Units(0),
@@ -85,10 +96,14 @@ fn covering(
     holdings
 }
 
-fn with_units(holding: Holding, covered: Contracts, unit: u32) -> Holding {
+fn with_units(holding: Holding, covered: Contracts, unit: u32) -> Holding
+    requires { ⌜ withUnits holding covered unit .locked .0 < 2 ^ 64 ⌝ }
+    ensures { λ r. ⌜ r ≡ withUnits holding covered unit ⌝ }
+{
     let units = covered.units(unit);
+    let bought = holding.bought;
     Holding {
         locked: Units(holding.locked.0 + units.0),
-        bought: holding.bought,
+        bought,
     }
 }

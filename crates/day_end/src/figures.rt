@@ -10,8 +10,10 @@ ghost use mathlib.Core.Path.{_≡_};
 ghost use Prim.Native.Nat.{_≤_};
 ghost use lib.ListN.{getD, length};
 ghost use Rattle.terms.specs.Ranges.{rangeOf, _∈_};
-ghost use Rattle.account.specs.DayEnd.{dayEndVerdict, every, figuresInstalled};
+ghost use Rattle.account.specs.DayEnd.{closed, dayEndVerdict, every, figuresInstalled, settled};
+ghost use Rattle.account.specs.Rows.{noContract, noUnderlying};
 ghost use Rattle.account.specs.Sound.{SoundTables};
+ghost use Rattle.day_end.specs.Passes.{changedTo};
 
 pub(crate) fn verdict(tables: Tables, n: u16, m: u16, figures: Figures) -> Verdict
     requires { ⌜ SoundTables tables ⌝ }
@@ -58,18 +60,21 @@ pub(crate) fn installed(tables: Tables, figures: Figures) -> Tables
     let settlements = figures.settlements;
     let closes = figures.closes;
     Tables {
-        underlyings: closed(underlyings, m, closes),
+        underlyings: with_closes(underlyings, m, closes),
         m,
-        contracts: settled(contracts, n, settlements),
+        contracts: with_settlements(contracts, n, settlements),
         n,
     }
 }
 
-fn settled(
+fn with_settlements(
     contracts: [Contract; terms::CONTRACTS],
     n: usize,
     settlements: [u32; terms::CONTRACTS],
-) -> [Contract; terms::CONTRACTS] {
+) -> [Contract; terms::CONTRACTS]
+    requires { ⌜ (length contracts ≡ 64) × (n ≤ 64) ⌝ }
+    ensures { λ r. ⌜ r ≡ changedTo 64 noContract (λ c row. settled row (getD settlements c 0)) contracts n ⌝ }
+{
     let mut after = contracts;
     let mut c = 0;
     while c < n {
@@ -81,11 +86,14 @@ fn settled(
     after
 }
 
-fn closed(
+fn with_closes(
     underlyings: [Underlying; terms::UNDERLYINGS],
     m: usize,
     closes: [u32; terms::UNDERLYINGS],
-) -> [Underlying; terms::UNDERLYINGS] {
+) -> [Underlying; terms::UNDERLYINGS]
+    requires { ⌜ (length underlyings ≡ 8) × (m ≤ 8) ⌝ }
+    ensures { λ r. ⌜ r ≡ changedTo 8 noUnderlying (λ u row. closed row (getD closes u 0)) underlyings m ⌝ }
+{
     let mut after = underlyings;
     let mut u = 0;
     while u < m {

@@ -1,0 +1,3 @@
+-- Laws of a pass over rows, which the proofs of the functions cite.
+pub mod Listing
+pub mod Summed
