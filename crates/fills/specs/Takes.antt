@@ -28,7 +28,7 @@ pub record Exact (f : Named) (fill : Fill) (kind : OrderKind) (sum : ℕ) : Type
   pub left : fill .quantity ≤ f .order .left .0
   pub cash : Shifts 64 (not (buysOf kind)) (f .sheet .cash) sum
   pub premium : f .sheet .premium + sum < 2 ^ 64
-  pub holds : fill .quantity * f .hold ≤ f .sheet .holds
+  pub holds : Shifts 64 false (f .sheet .holds) (fill .quantity * f .hold)
   pub margined : f .sheet .margin + fill .quantity * f .margin < 2 ^ 64
   pub margin : movesOf kind ≡ Short → Shifts 64 (opensOf kind) (f .sheet .margin) (fill .quantity * f .margin)
   pub count : Shifts 32 (opensOf kind) (countOf (movesOf kind) (f .position)) (fill .quantity)
@@ -40,6 +40,7 @@ pub record Fillable (f : Named) (fill : Fill) : Type 0 where
   pub place : f .place < 32
   pub unit : unitAllowed (f .unit) ≡ true
   pub ceiling : f .sheet .cash + f .sheet .premium ≤ 1_000_000_000_000_000
+  pub most : paid f fill ≤ 100 * 10_000_000_000
   pub exact : fillVerdict f fill ≡ Accepted → Exact f fill (kindOf (f .order)) (paid f fill)
 
 -- what a cancel takes off is there

@@ -25,7 +25,8 @@ pub fn fill(tables: Tables, account: Account, fill: Fill) -> Decision
     requires { ⌜ Sound tables account ⌝ }
     ensures { λ r. ⌜ r ≡ decided (fillVerdict (named tables account (fill .number)) fill) (fillChange (named tables account (fill .number)) fill) ⌝ }
 {
-    if !(Measure::Quantity.allows(fill.quantity as u64) & Measure::Price.allows(fill.price as u64)) {
+    if !(Measure::Quantity.allows(fill.quantity as u64)
+        & Measure::Price.allows(fill.price as u64)) {
         return Decision::Refused(Refusal::OutOfRange);
     }
     let place = place_of(account, fill.number);

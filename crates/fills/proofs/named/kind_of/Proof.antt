@@ -4,8 +4,6 @@ use borrow.Author.Needs.{needs}
 use Rattle.account.specs.Money.{answered}
 use Rattle.fills.proofs.named.kind_of.Statement.{statement}
 use Rattle.fills.proofs.named.kind_of.Tie as tie
-use Rattle.fills.proofs.named.kind_of.Reads as reads
-use Rattle.fills.proofs.named.kind_of.Lts as lts
 
 pub kind-of-spec : {M : Type 1} → statement M
 kind-of-spec =
@@ -14,5 +12,5 @@ kind-of-spec =
     (λ c κs. search needs)
     (λ c. search needs)
     (λ c. search needs)
-    (λ c. let told = c .known-told .given in ?)
-    (λ c. let told = c .enum-told .given in ?))
+    (λ c. ap answered (sym (c .before .kind .given .1) ∙ c .before .before .before .coded .ensures))
+    (λ c. ap answered (sym (c .enum-told .given .1) ∙ c .before .before .coded .ensures)))
