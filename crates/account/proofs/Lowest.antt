@@ -2,8 +2,9 @@
 use mathlib.Core.Path.{_≡_, refl, sym, _∙_, ap}
 use mathlib.Core.Logic.{inl, inr}
 use mathlib.Core.Bool.{Bool, true, false, cond, true≢false}
-use Prim.Native.Nat.{ℕ, zero, suc, _≤_, _<_}
+use Prim.Native.Nat.{ℕ, zero, suc, _+_, _≤_, _<_}
 use native.Mathlib.Nat.{eq-or-lt-of-le, le-of-suc-le-suc}
+use native.Mathlib.Numerals.{add-one}
 use native.Mathlib.Omega.{arith}
 use Rattle.account.specs.Sums.{lowest}
 
@@ -59,3 +60,19 @@ lowest-first (suc n) test j h =
           ]
     ] in
     goal (test (lowest n test)) refl h
+
+-- a search from 0 upwards, as a loop makes it: as long as nothing passed below i, it ends at the lowest
+pub lowest-start : (test : ℕ → Bool) → lowest 0 test ≡ 0
+unfolding lowest
+lowest-start test = refl
+
+module _ (test : ℕ → Bool) (i : ℕ) (none : lowest i test ≡ i) where
+  pub lowest-here : (n : ℕ) → i ≤ n → test i ≡ true → i ≡ lowest n test
+  lowest-here n h passes = sym (lowest-kept i n test h (ap test none ∙ passes) ∙ none)
+
+  pub lowest-on : test i ≡ false → lowest (i + 1) test ≡ i + 1
+  unfolding lowest
+  lowest-on fails = rw add-one (ap (λ (b : Bool). cond b (lowest i test) (suc i)) (ap test none ∙ fails))
+
+  pub lowest-end : (n : ℕ) → i ≡ n → i ≡ lowest n test
+  lowest-end n e = sym (ap (λ (k : ℕ). lowest k test) (sym e) ∙ none)

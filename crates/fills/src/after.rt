@@ -8,15 +8,16 @@ use terms::OrderKind;
 use terms::Position;
 use terms::Side;
 ghost use mathlib.Core.Path.{_≡_};
-ghost use Prim.Native.Nat.{_≤_};
-ghost use Rattle.account.specs.Fills.{cashAfter, marginAfter, moved, orderAfter, paid, premiumAfter, sheetAfter, shifted};
-ghost use Rattle.account.specs.Money.{kindOf};
+ghost use mathlib.Core.Bool.{not};
+ghost use Prim.Native.Nat.{_+_, _^_, _≤_, _<_};
+ghost use Rattle.terms.specs.declared.kind.Side.the-variants.{Short};
+ghost use Rattle.account.specs.Fills.{cashAfter, marginAfter, moved, orderAfter, premiumAfter, sheetAfter, shifted};
 ghost use Rattle.account.specs.Totals.{countOf};
 ghost use Rattle.fills.specs.Takes.{Exact, Shifts};
 
 // The money, the share of the hold, the margin.
 pub(crate) fn sheet_after(named: Named, kind: OrderKind, fill: Fill, sum: u64) -> Sheet
-    requires { ⌜ Exact named fill × (kind ≡ kindOf (named .order)) × (sum ≡ paid named fill) ⌝ }
+    requires { ⌜ Exact named fill kind sum ⌝ }
     ensures { λ r. ⌜ r ≡ sheetAfter named fill kind ⌝ }
 {
     let q = fill.quantity as u64;
@@ -33,7 +34,7 @@ pub(crate) fn sheet_after(named: Named, kind: OrderKind, fill: Fill, sum: u64) -
 
 // Buys pay from cash; of the sells a covered open alone receives no cash.
 fn cash_after(side: Side, buys: bool, cash: u64, sum: u64) -> u64
-    requires { ⌜ Shifts cash sum ⌝ }
+    requires { ⌜ Shifts 64 (not buys) cash sum ⌝ }
     ensures { λ r. ⌜ r ≡ cashAfter side buys cash sum ⌝ }
 {
     match side {
@@ -45,6 +46,7 @@ fn cash_after(side: Side, buys: bool, cash: u64, sum: u64) -> u64
 
 // It receives covered premium.
 fn premium_after(side: Side, buys: bool, premium: u64, sum: u64) -> u64
+    requires { ⌜ premium + sum < 2 ^ 64 ⌝ }
     ensures { λ r. ⌜ r ≡ premiumAfter side buys premium sum ⌝ }
 {
     match side {
@@ -56,6 +58,7 @@ fn premium_after(side: Side, buys: bool, premium: u64, sum: u64) -> u64
 
 // Margin moves with short alone.
 fn margin_after(side: Side, opens: bool, margin: u64, sum: u64) -> u64
+    requires { ⌜ (side ≡ Short → Shifts 64 opens margin sum) ⌝ }
     ensures { λ r. ⌜ r ≡ marginAfter side opens margin sum ⌝ }
 {
     match side {
@@ -66,6 +69,7 @@ fn margin_after(side: Side, opens: bool, margin: u64, sum: u64) -> u64
 }
 
 fn shifted(up: bool, x: u64, by: u64) -> u64
+    requires { ⌜ Shifts 64 up x by ⌝ }
     ensures { λ r. ⌜ r ≡ shifted up x by ⌝ }
 {
     if up { x + by } else { x - by }
@@ -73,6 +77,7 @@ fn shifted(up: bool, x: u64, by: u64) -> u64
 
 // The count that the kind moves: an open adds to it, a close takes off it.
 pub(crate) fn moved(side: Side, opens: bool, quantity: u32, position: Position) -> Position
+    requires { ⌜ Shifts 32 opens (countOf side position) quantity ⌝ }
     ensures { λ r. ⌜ r ≡ moved side opens quantity position ⌝ }
 {
     let long = position.long;
@@ -97,7 +102,10 @@ pub(crate) fn moved(side: Side, opens: bool, quantity: u32, position: Position) 
     }
 }
 
-fn counted(up: bool, count: Contracts, by: u32) -> Contracts {
+fn counted(up: bool, count: Contracts, by: u32) -> Contracts
+    requires { ⌜ Shifts 32 up (count .0) by ⌝ }
+    ensures { λ r. ⌜ r .0 ≡ shifted up (count .0) by ⌝ }
+{
     Contracts(shifted(up, count.0 as u64, by as u64) as u32)
 }
 

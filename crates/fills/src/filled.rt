@@ -17,8 +17,7 @@ use terms::OrderKind;
 use terms::Refusal;
 ghost use mathlib.Core.Path.{_≡_};
 ghost use Rattle.account.specs.Changes.{decided};
-ghost use Rattle.account.specs.Fills.{fillChange, fillVerdict, named, paid, priceAllowed};
-ghost use Rattle.account.specs.Money.{kindOf};
+ghost use Rattle.account.specs.Fills.{fillChange, fillVerdict, named, priceAllowed};
 ghost use Rattle.account.specs.Sound.{Sound};
 ghost use Rattle.fills.specs.Takes.{Exact, Fillable};
 
@@ -67,7 +66,7 @@ fn price_allowed(buys: bool, limit: u32, price: u32) -> bool
 }
 
 fn change(named: Named, kind: OrderKind, fill: Fill, sum: u64) -> Change
-    requires { ⌜ Exact named fill × (kind ≡ kindOf (named .order)) × (sum ≡ paid named fill) ⌝ }
+    requires { ⌜ Exact named fill kind sum ⌝ }
     ensures { λ r. ⌜ r ≡ fillChange named fill ⌝ }
 {
     let order = named.order;

@@ -1,0 +1,180 @@
+-- What stands behind a resting order of a sound account: its rows are inside the arrays and its figures in their ranges, so what is charged is what one contract costs; and what a fill or a cancel of it takes off is there.
+use mathlib.Core.Path.{_≡_, refl, ap, _∙_}
+use mathlib.Core.Bool.{true, false, not}
+use Prim.Native.Nat.{ℕ, _+_, _*_, _^_, _≤_, _<_}
+use native.Mathlib.Nat.{le-of-lt, mul-le-mul}
+use native.Mathlib.Omega.{arith}
+use borrow.Author.Tests.{not-false, lt-ltb}
+use lib.Dec.{ltb}
+use Rattle.terms.specs.Kinds.{movesOf, opensOf}
+use Rattle.terms.specs.Ranges.{rangeOf, _∈_}
+use Rattle.terms.specs.declared.kind.OrderKind.{OrderKind}
+use Rattle.terms.specs.declared.kind.OrderKind.the-variants.{BuyOpen, SellClose, SellOpen, BuyClose, CoveredOpen, CoveredClose}
+use Rattle.terms.specs.declared.kind.Side.the-variants.{Short}
+use Rattle.terms.specs.declared.measure.Measure.the-variants.{Price, Quantity}
+use Rattle.terms.proofs.Ranges.{inside}
+use Rattle.rules.specs.Count.{forCount}
+use Rattle.rules.specs.Charges.{marginAllowed}
+use Rattle.entries.specs.declared.entry.Contract.{Contract}
+use Rattle.entries.specs.declared.entry.Fill.{Fill}
+use Rattle.entries.specs.declared.entry.Underlying.{Underlying}
+use Rattle.account.specs.Fills.{cancelVerdict, fillVerdict, named, namedAt, paid, placeOf}
+use Rattle.account.specs.Money.{kindOf}
+use Rattle.account.specs.Orders.{coveredPut, orderAllowed}
+use Rattle.account.specs.Rows.{contract, holding, order, position, underlying}
+use Rattle.account.specs.Sound.{Sound, SoundOrder, asOrder}
+use Rattle.account.specs.declared.account.Account.{Account}
+use Rattle.account.specs.declared.account.Resting.{Resting}
+use Rattle.account.specs.declared.judged.Named.{Named}
+use Rattle.account.specs.declared.judged.Verdict.the-variants.{Accepted}
+use Rattle.account.specs.declared.tables.Tables.{Tables}
+use Rattle.account.proofs.Allowed.{contract-known, underlying-known}
+use Rattle.account.proofs.Bounds.{count-of, figures-allowed, four, one-hold, one-margin, one-premium, order-figures, row-of, sheet-sound}
+use Rattle.account.proofs.NothingShort.{cancel-exact, fill-exact}
+use Rattle.account.proofs.Taken.{found}
+use Rattle.money.specs.Charged.{holdCharged, marginCharged}
+use Rattle.money.proofs.Charged.{hold-charged, margin-charged}
+use Rattle.fills.specs.Takes.{Cancellable, Exact, Fillable, Shifts}
+
+-- an order has the number, and what is gathered at its place is what the number names
+module _ (t : Tables) (a : Account) (number : ℕ) {place : ℕ} (here : place ≡ placeOf a number) where
+  pub within : place < 32 → placeOf a number < 32
+  within there = rw here at there
+
+  pub rests : Sound t a → place < 32 → Sound t a × (place < 32) × (1 ≤ order a place .number)
+  rests sound there = (sound, there, rw here (found a number (within there)))
+
+  pub named-there : {f : Named} → f ≡ namedAt t a place (order a place) → f ≡ named t a number
+  unfolding named
+  named-there gathered = gathered ∙ ap (λ (i : ℕ). namedAt t a i (order a i)) here
+
+-- an order rests at a place
+module _ (t : Tables) (a : Account) (place : ℕ) (sound : Sound t a) (there : place < 32) (some : 1 ≤ order a place .number) where
+  abbrev r : Resting
+  r = order a place
+
+  abbrev k : Contract
+  k = contract t (r .contract)
+
+  abbrev p : Underlying
+  p = underlying t (k .underlying)
+
+  resting : SoundOrder t (a .last) r
+  resting = sound .resting place there some
+
+  pub known : r .contract < t .n
+  known = contract-known t (asOrder r) (resting .allowed)
+
+  pub contract-inside : r .contract < 64
+  contract-inside = let few = sound .tables .fewContracts in omega (arith, known, few)
+
+  pub underlying-inside : k .underlying < 8
+  underlying-inside =
+      let few = sound .tables .fewUnderlyings in
+      omega (arith, underlying-known t (asOrder r) (resting .allowed) (sound .tables), few)
+
+  priced : (r .price ∈ rangeOf Price) ≡ true
+  unfolding orderAllowed
+  priced =
+      let quantity = r .left .0 ∈ rangeOf Quantity in
+      let call = not (coveredPut (movesOf (kindOf r)) (k .right)) in
+      four quantity (r .price ∈ rangeOf Price) (ltb (r .contract) (t .n)) call (resting .allowed) .1
+
+  allowed : marginAllowed (k .settlement) (p .close) (k .strike) (k .unit) ≡ true
+  allowed = figures-allowed (sound .tables) (r .contract) known
+
+  -- the facts as they are put together are those of the definition
+  pub put-together : (kind : OrderKind) (hold margin : ℕ) → kind ≡ kindOf r → hold ≡ holdCharged kind k p (r .price) → margin ≡ marginCharged k p
+      → record {
+        place = place;
+        order = r;
+        position = position a (r .contract);
+        unit = k .unit;
+        underlying = k .underlying;
+        holding = holding a (k .underlying);
+        hold = hold;
+        margin = margin;
+        sheet = a .sheet;
+        last = a .last;
+      }
+      ≡ namedAt t a place r
+  put-together kind hold margin kinds holds margins =
+      rw (holds, margins, kinds, hold-charged k p allowed (kindOf r) (r .price) priced, margin-charged k p allowed) refl
+
+-- of the kinds that move short, 4 alone closes
+buy-close : (kind : OrderKind) → movesOf kind ≡ Short → opensOf kind ≡ false → kind ≡ BuyClose
+buy-close BuyOpen e c = cc
+buy-close SellClose e c = cc
+buy-close SellOpen e c = cc
+buy-close BuyClose e c = refl
+buy-close CoveredOpen e c = cc
+buy-close CoveredClose e c = cc
+
+module _ (t : Tables) (a : Account) (sound : Sound t a) where
+  module _ (fill : Fill) (there : placeOf a (fill .number) < 32) (quantity : (fill .quantity ∈ rangeOf Quantity) ≡ true) (price : (fill .price ∈ rangeOf Price) ≡ true) where
+    abbrev f : Named
+    f = named t a (fill .number)
+
+    few : fill .quantity ≤ 100
+    few = inside _ (rangeOf Quantity) quantity .1
+
+    its-contract : f .order .contract < t .n
+    unfolding named
+    its-contract = known t a _ sound there (found a (fill .number) there)
+
+    -- holds and margin, with as much again as a fill can move, fit
+    small : (before one : ℕ) → before ≤ 64 * (10_000 * 20_000_000_000) → one ≤ 20_000_000_000 → before + fill .quantity * one < 2 ^ 64
+    small before one most each = let moves = mul-le-mul few each in omega (arith, most, moves)
+
+    most : paid f fill ≤ 100 * 10_000_000_000
+    unfolding named forCount
+    most = mul-le-mul few (one-premium (sound .tables) _ its-contract (fill .price) (inside _ (rangeOf Price) price .1))
+
+    margined : f .sheet .margin + fill .quantity * f .margin < 2 ^ 64
+    unfolding named
+    margined = small _ _ (sheet-sound sound .margin) (le-of-lt (one-margin (sound .tables) _ its-contract))
+
+    held : f .sheet .holds + fill .quantity * f .hold < 2 ^ 64
+    unfolding named
+    held =
+        let before = sheet-sound sound .holds in
+        let figures = order-figures (asOrder (f .order)) (resting t a _ sound there (found a (fill .number) there) .allowed) in
+        small _ _ (omega (arith, before)) (le-of-lt (one-hold (sound .tables) _ its-contract (kindOf (f .order)) _ (figures .price)))
+
+    exact : fillVerdict f fill ≡ Accepted → Exact f fill (kindOf (f .order)) (paid f fill)
+    unfolding named forCount
+    exact accepted =
+        let kind = kindOf (f .order) in
+        let takes = fill-exact t a fill sound accepted in
+        let ceiling = sound .ceiling in
+        let counts = count-of sound (movesOf kind) _ its-contract in
+        record {
+          ordered = refl;
+          paying = refl;
+          left = takes .left;
+          cash = record { fits = omega (arith, most, ceiling); there = λ sells. takes .cash (not-false _ sells) };
+          premium = omega (arith, most, ceiling);
+          holds = record { fits = held; there = λ taken. takes .holds };
+          margined = margined;
+          margin = λ short. record { fits = margined; there = λ closes. takes .margin (buy-close kind short closes) };
+          count = record { fits = omega (arith, few, counts); there = takes .count };
+        }
+
+    pub fillable : Fillable f fill
+    unfolding named
+    fillable =
+        record {
+          quantity = quantity;
+          price = price;
+          place = there;
+          unit = row-of (sound .tables) _ its-contract .unit;
+          ceiling = sound .ceiling;
+          most = most;
+          exact = exact;
+        }
+
+  pub cancellable : (number : ℕ) → placeOf a number < 32 → Cancellable (named t a number)
+  unfolding named cancelVerdict forCount
+  cancellable number there =
+      let takes = cancel-exact t a number sound (rw (lt-ltb (placeOf a number) 32 there)) in
+      record { holds = takes .holds; bought = takes .bought }
