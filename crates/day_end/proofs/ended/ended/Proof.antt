@@ -71,7 +71,8 @@ returns : tie.Need-returns
 returns c =
     let margin = c .before .before in
     let net = margin .before .before .before in
-    put-together _ _ _ _ _ (net .net-all .ensures) (margin .margin-in .ensures) (c .covering .ensures) _ (c .before .free .ensures)
+    let start = net .before .before in
+    put-together (start .args .tables) (start .args .account) _ _ _ (net .net-all .ensures) (margin .margin-in .ensures) (c .covering .ensures) _ (c .before .free .ensures)
 
 pub ended-spec : {M : Type 1} → statement M
 ended-spec =
