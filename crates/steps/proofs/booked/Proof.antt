@@ -1,0 +1,32 @@
+-- `booked` meets its contract: a refusal leaves tables and account as they were, a change is applied.
+use mathlib.Core.Path.{_≡_, refl, sym, ap, _∙_}
+use Rattle.terms.specs.declared.refusal.Refusal.{Refusal}
+use borrow.Author.Needs.{needs}
+use Rattle.account.specs.Changes.{applied}
+use Rattle.account.specs.declared.account.Account.{Account}
+use Rattle.account.specs.declared.judged.Change.{Change}
+use Rattle.account.specs.declared.judged.Decision.{Decision}
+use Rattle.account.specs.declared.judged.Decision.the-variants as Decision·of
+use Rattle.account.specs.declared.judged.Outcome.{Outcome}
+use Rattle.account.specs.declared.judged.Verdict.the-variants.{Accepted, Refused}
+use Rattle.account.specs.declared.tables.Tables.{Tables}
+use Rattle.steps.specs.Booked.{bookedBy}
+use Rattle.steps.proofs.booked.Statement.{statement}
+use Rattle.steps.proofs.booked.Tie as tie
+
+module _ (t : Tables) (a : Account) (d : Decision) where
+  refused : (why : Refusal) → d ≡ Decision·of.Refused why → record { verdict = Refused why; tables = t; account = a } ≡ bookedBy t a d
+  refused why e = sym (ap (bookedBy t a) e)
+
+  changed : (change : Change) (after : Account) → d ≡ Decision·of.Changes change → after ≡ applied a change → record { verdict = Accepted; tables = t; account = after } ≡ bookedBy t a d
+  changed change after e is = ap (λ (after : Account). record { verdict = Accepted; tables = t; account = after }) is ∙ sym (ap (bookedBy t a) e)
+
+pub booked-spec : {M : Type 1} → statement M
+booked-spec =
+    tie.close
+    (tie.spec
+    (λ c. search needs)
+    (λ c. search needs)
+    (λ c κs. tt)
+    (λ c. refused _ _ _ _ (c .before .decision .given .1))
+    (λ c. changed _ _ _ _ _ (c .before .before .decision2 .given .1) (c .apply .ensures)))
