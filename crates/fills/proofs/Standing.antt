@@ -34,7 +34,7 @@ use Rattle.account.proofs.NothingShort.{cancel-exact, fill-exact}
 use Rattle.account.proofs.Taken.{found}
 use Rattle.money.specs.Charged.{holdCharged, marginCharged}
 use Rattle.money.proofs.Charged.{hold-charged, margin-charged}
-use Rattle.fills.specs.Takes.{Cancellable, Exact, Fillable, Shifts}
+use Rattle.fills.specs.Takes.{Cancellable, Exact, Fillable}
 
 -- an order has the number, and what is gathered at its place is what the number names
 module _ (t : Tables) (a : Account) (number : ℕ) {place : ℕ} (here : place ≡ placeOf a number) where

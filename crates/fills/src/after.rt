@@ -21,14 +21,16 @@ pub(crate) fn sheet_after(named: Named, kind: OrderKind, fill: Fill, sum: u64) -
     ensures { λ r. ⌜ r ≡ sheetAfter named fill kind ⌝ }
 {
     let q = fill.quantity as u64;
+    let freed = q * named.hold;
+    let asked = q * named.margin;
     let sheet = named.sheet;
     let side = kind.moves();
     let buys = kind.buys();
     Sheet {
         cash: cash_after(side, buys, sheet.cash, sum),
         premium: premium_after(side, buys, sheet.premium, sum),
-        holds: sheet.holds - q * named.hold,
-        margin: margin_after(side, kind.opens(), sheet.margin, q * named.margin),
+        holds: sheet.holds - freed,
+        margin: margin_after(side, kind.opens(), sheet.margin, asked),
     }
 }
 

@@ -1,13 +1,5 @@
 -- `moved` meets its contract: in each arm the side is known, and with it the count that is shifted.
-use mathlib.Core.Path.{_≡_, sym, ap, _∙_}
-use mathlib.Core.Bool.{Bool}
-use Prim.Native.Nat.{ℕ}
 use borrow.Author.Needs.{needs}
-use Rattle.terms.specs.declared.count.Position.{Position}
-use Rattle.terms.specs.declared.kind.Side.{Side}
-use Rattle.account.specs.Fills.{moved}
-use Rattle.account.specs.Totals.{countOf}
-use Rattle.fills.specs.Takes.{Shifts}
 use Rattle.fills.proofs.after.moved.Statement.{statement}
 use Rattle.fills.proofs.after.moved.Tie as tie
 

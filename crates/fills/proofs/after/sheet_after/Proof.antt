@@ -36,23 +36,23 @@ sheet-after-spec =
     tie.close
     (tie.spec
     (λ c. search needs)
-    (λ c κs. search needs)
-    (λ c κs. search needs)
-    (λ c κs. cash-shifts _ _ _ _ (c .before .before .before .before .pre) _ (c .buys .ensures))
-    (λ c κs. search needs)
-    (λ c. let holds = c .before .before .before .before .before .before .before .pre .holds .fits in record { fits = omega (arith, holds) })
-    (λ c. c .before .before .before .before .before .before .before .before .pre .holds .there refl)
-    (λ c κs. search needs)
+    (λ c. let holds = c .before .before .pre .holds .fits in record { fits = omega (arith, holds) })
     (λ c. search needs)
+    (λ c κs. search needs)
+    (λ c κs. search needs)
+    (λ c κs. cash-shifts _ _ _ _ (c .before .before .before .before .before .before .pre) _ (c .buys .ensures))
+    (λ c κs. search needs)
+    (λ c. c .before .before .before .before .before .before .before .before .before .pre .holds .there refl)
+    (λ c κs. search needs)
     (λ c κs.
-    let moves = c .before .before .before .before .before .before .before in
-    margin-shifts _ _ _ _ (moves .before .before .before .pre) _ _ (moves .moves .ensures) (c .before .opens .ensures))
+    let moves = c .before .before .before .before .before in
+    margin-shifts _ _ _ _ (moves .before .before .before .before .before .pre) _ _ (moves .moves .ensures) (c .opens .ensures))
     (λ c.
-    let moves = c .before .before .before .before .before .before .before .before in
-    put-together _ _ _ _ (moves .before .before .before .pre) _ _ _ _ _ _
+    let moves = c .before .before .before .before .before .before in
+    put-together _ _ _ _ (moves .before .before .before .before .before .pre) _ _ _ _ _ _
     (moves .moves .ensures)
-    (c .before .before .before .before .before .before .before .buys .ensures)
-    (c .before .before .opens .ensures)
-    (c .before .before .before .before .before .before .cash-after .ensures)
-    (c .before .before .before .before .before .premium-after .ensures)
+    (c .before .before .before .before .before .buys .ensures)
+    (c .before .opens .ensures)
+    (c .before .before .before .before .cash-after .ensures)
+    (c .before .before .before .premium-after .ensures)
     (c .margin-after .ensures)))

@@ -1,7 +1,7 @@
 -- `decide` meets its contract: with the values in range and the order there, the three tests left are the definition's, and an accepted fill is exact.
 use mathlib.Core.Path.{_≡_, refl, ap, _∙_}
 use mathlib.Core.Bool.{Bool, true, false, not, _&&_, _||_}
-use Prim.Native.Nat.{ℕ, _+_, _*_}
+use Prim.Native.Nat.{ℕ, _+_, _*_, _≤_}
 use native.Mathlib.Omega.{arith}
 use borrow.Author.Needs.{needs}
 use borrow.Author.Tests.{not-true, not-false, lt-ltb}
@@ -59,12 +59,12 @@ module _ {f : Named} {fill : Fill} {kind : OrderKind} {buys priced : Bool} {sum 
   abbrev covered : Bool
   covered = not buys || leb sum (f .sheet .cash)
 
-  total-fits : Fits w64 total
-  total-fits =
+  total-small : total ≤ 1_001_000_000_000_000
+  total-small =
       let most = tested .can .most in
       let ceiling = tested .can .ceiling in
       let paying = tested .paying in
-      record { fits = omega (arith, paying, most, ceiling) }
+      omega (arith, paying, most, ceiling)
 
   verdict : fillVerdict f fill ≡ (within else FillBarred then (buys || (total ∈ rangeOf Money)) else CeilingPassed then covered else CashBelowZero then Accepted)
   unfolding fillVerdict
@@ -126,7 +126,7 @@ decide-spec =
     (λ c κs. search needs)
     (λ c. barred (known (c .before)) (c .if1 .taken))
     (λ c. search needs)
-    (λ c. total-fits (known (c .before .before)))
+    (λ c. let small = total-small (known (c .before .before)) in record { fits = omega (arith, small) })
     (λ c κs. search needs)
     (λ c. over (known (c .before .before .before .before)) (c .before .allows .ensures) (c .before .before .before .if1 .left) (c .if2 .taken))
     (λ c.
