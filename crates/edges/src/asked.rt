@@ -1,75 +1,99 @@
-// What a line asks: an order, or facts and the order they judge.
-use account::Facts;
-use account::Holding;
-use account::Sheet;
+// What a line asks: an entry, and a day end's figures beside it.
+use entries::Contract;
+use entries::Entry;
+use entries::Figures;
+use entries::Fill;
 use entries::Order;
 use entries::Underlying;
 use lines::codes;
 use lines::input::field;
 use lines::input::half;
-use lines::input::signed;
 use lines::input::word;
 use terms::Class;
-use terms::Contracts;
-use terms::Units;
+use terms::Right;
 
-// Number, contract, kind, quantity, price.
-pub fn order(l: &[u8]) -> Order {
-    Order {
+pub fn letter(l: &[u8], at: usize) -> u8 {
+    if at < l.len() { l[at] } else { b'#' }
+}
+
+// A line's first letter says what it asks; its fields are those of the record.
+pub fn entry(l: &[u8]) -> Entry {
+    match letter(l, 0) {
+        b'd' => Entry::Deposit(field(l, 1)),
+        b'w' => Entry::Withdraw(field(l, 1)),
+        b'l' => Entry::Lock {
+            underlying: half(l, 1),
+            units: word(l, 2),
+        },
+        b'u' => Entry::Unlock {
+            underlying: half(l, 1),
+            units: word(l, 2),
+        },
+        b'o' => order(l),
+        b'f' => fill(l),
+        b'c' => Entry::Cancel { number: word(l, 1) },
+        b'e' => Entry::DayEnd {
+            n: half(l, 1),
+            m: half(l, 2),
+        },
+        _ => set_up(l),
+    }
+}
+
+fn order(l: &[u8]) -> Entry {
+    Entry::Order(Order {
         number: word(l, 1),
         contract: half(l, 2),
         kind: codes::order_kind(half(l, 3)),
         quantity: word(l, 4),
         price: word(l, 5),
+    })
+}
+
+fn fill(l: &[u8]) -> Entry {
+    Entry::Fill(Fill {
+        number: word(l, 1),
+        quantity: word(l, 2),
+        price: word(l, 3),
+    })
+}
+
+// A record of set-up by its kind. On an open account it is refused whatever its values are.
+fn set_up(l: &[u8]) -> Entry {
+    match field(l, 1) {
+        16 => Entry::Underlying(Underlying {
+            class: Class::Fund,
+            close: 1,
+            rights: 0,
+            total: 0,
+            daily: 0,
+        }),
+        17 => Entry::Contract(Contract {
+            underlying: 0,
+            right: Right::Call,
+            strike: 1,
+            unit: 100,
+            settlement: 0,
+        }),
+        _ => Entry::Opening(0),
     }
 }
 
-// Kind, number, quantity. No check asks for a contract or a price: what they lead to is among the facts.
-pub fn judged(l: &[u8]) -> Order {
-    Order {
-        number: word(l, 2),
-        contract: 0,
-        kind: codes::order_kind(half(l, 1)),
-        quantity: word(l, 3),
-        price: 0,
+// A day end's settlements stand behind its counts, its closes behind those. Every row is filled from the line, those past the counts too.
+pub fn figures(l: &[u8]) -> Figures {
+    let n = half(l, 1) as usize;
+    let mut settlements = [0; terms::CONTRACTS];
+    let mut closes = [0; terms::UNDERLYINGS];
+    let mut i = 0;
+    while i < terms::CONTRACTS {
+        settlements[i] = word(l, 3 + i);
+        if i < terms::UNDERLYINGS {
+            closes[i] = word(l, 3 + n + i);
+        }
+        i += 1;
     }
-}
-
-// From the fourth field on, in the order of the checks that ask for them; what no check asks for is zero.
-pub fn facts(l: &[u8]) -> Facts {
-    Facts {
-        allowed: field(l, 4) == 1,
-        last: word(l, 5),
-        place: field(l, 6) as usize,
-        position: Contracts(word(l, 7)),
-        closing: Contracts(word(l, 8)),
-        rights: Contracts(word(l, 9)),
-        total: Contracts(word(l, 11)),
-        underlying: 0,
-        limits: limits(half(l, 10), half(l, 12), half(l, 14)),
-        holding: Holding {
-            locked: Units(0),
-            bought: Contracts(word(l, 13)),
-        },
-        spare: Units(field(l, 15)),
-        needed: Units(field(l, 16)),
-        sheet: Sheet {
-            cash: 0,
-            premium: 0,
-            holds: 0,
-            margin: 0,
-        },
-        available: signed(l, 17),
-        hold: field(l, 18),
-    }
-}
-
-fn limits(rights: u16, total: u16, daily: u16) -> Underlying {
-    Underlying {
-        class: Class::Stock,
-        close: 0,
-        rights,
-        total,
-        daily,
+    Figures {
+        settlements,
+        closes,
     }
 }

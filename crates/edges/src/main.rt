@@ -1,20 +1,24 @@
-// Runs orders through the whole path, and verdicts on given facts: a line of standard input each, written again with '=' and what came out.
+// Books every kind of entry from lines of text: each line of standard input is written again with '=' and the account after it.
 mod asked;
 mod fixed;
+mod shown;
 
 use account::Account;
-use account::Holding;
+use account::Outcome;
 use account::Tables;
 use account::Verdict;
+use asked::entry;
+use asked::figures;
+use asked::letter;
 use lines::input::field;
 use lines::input::line_end;
-use lines::output::number;
 use lines::output::text;
-use orders::book_order;
-use orders::decide;
+use shown::show;
+use steps::step;
 use terms::Measure;
 use terms::Refusal;
-ghost use Rattle.account.specs.Sound.{Sound};
+ghost use Prim.Native.Nat.{_≤_};
+ghost use Rattle.account.specs.Sound.{Sound, SoundTables};
 
 fn main() {
     let mut buffer = io::large_buffer();
@@ -23,94 +27,87 @@ fn main() {
 }
 
 fn run(s: &[u8]) {
-    let tables = fixed::tables();
-    let mut account = Account::opening(0);
+    let mut state = opened(fixed::small(), 0);
     let mut at = 0;
     while at < s.len() {
         let stop = line_end(s, at);
-        account = line(tables, account, &s[at..stop]);
+        state = line(state, &s[at..stop]);
         at = stop + 1;
     }
 }
 
-fn line(tables: Tables, account: Account, l: &[u8]) -> Account
-    requires { ⌜ Sound tables account ⌝ }
-    ensures { λ r. ⌜ Sound tables r ⌝ }
+fn line(state: Outcome, l: &[u8]) -> Outcome
+    requires { ⌜ Sound (state .tables) (state .account) ⌝ }
+    ensures { λ r. ⌜ Sound (r .tables) (r .account) ⌝ }
 {
     text(l);
-    let after = answer(tables, account, l);
+    let after = answer(state, l);
     text(b"\n");
     after
 }
 
-// A line's second letter tells `open`, `order` and `decide` apart; any other line is a remark.
-fn answer(tables: Tables, account: Account, l: &[u8]) -> Account
-    requires { ⌜ Sound tables account ⌝ }
-    ensures { λ r. ⌜ Sound tables r ⌝ }
+// A line that begins with '#', or with nothing, is a remark.
+fn answer(state: Outcome, l: &[u8]) -> Outcome
+    requires { ⌜ Sound (state .tables) (state .account) ⌝ }
+    ensures { λ r. ⌜ Sound (r .tables) (r .account) ⌝ }
 {
-    match letter(l) {
-        b'p' => open(tables, account, l),
-        b'r' => order(tables, account, l),
-        b'e' => {
-            judge(l);
-            account
-        }
-        _ => account,
+    if letter(l, 0) == b'#' {
+        return state;
     }
-}
-
-fn letter(l: &[u8]) -> u8 {
-    if 1 < l.len() { l[1] } else { b' ' }
-}
-
-fn open(tables: Tables, account: Account, l: &[u8]) -> Account
-    requires { ⌜ Sound tables account ⌝ }
-    ensures { λ r. ⌜ Sound tables r ⌝ }
-{
-    let cash = field(l, 1);
-    if Measure::OpeningCash.allows(cash) {
-        verdict(Verdict::Accepted);
-        Account::opening(cash)
-    } else {
-        verdict(Verdict::Refused(Refusal::OutOfRange));
-        account
-    }
-}
-
-fn order(tables: Tables, account: Account, l: &[u8]) -> Account
-    requires { ⌜ Sound tables account ⌝ }
-    ensures { λ r. ⌜ Sound tables r ⌝ }
-{
-    let booked = book_order(tables, account, asked::order(l));
-    let after = booked.account;
-    let outcome = booked.verdict;
-    verdict(outcome);
+    let after = booked(state, l);
     show(after);
     after
 }
 
-fn judge(l: &[u8]) {
-    verdict(decide(asked::facts(l), asked::judged(l)));
+// Of all the words that a line can begin with, `open` alone has this second letter.
+fn booked(state: Outcome, l: &[u8]) -> Outcome
+    requires { ⌜ Sound (state .tables) (state .account) ⌝ }
+    ensures { λ r. ⌜ Sound (r .tables) (r .account) ⌝ }
+{
+    if letter(l, 1) == b'p' {
+        return open(state, l);
+    }
+    let tables = state.tables;
+    let account = state.account;
+    step(tables, account, entry(l), figures(l))
 }
 
-fn verdict(v: Verdict) {
-    text(b" =");
-    match v {
-        Verdict::Accepted => number(0),
-        Verdict::Refused(why) => number(why.number() as u64),
+// Cash, then 1 for the full tables.
+fn open(state: Outcome, l: &[u8]) -> Outcome
+    requires { ⌜ Sound (state .tables) (state .account) ⌝ }
+    ensures { λ r. ⌜ Sound (r .tables) (r .account) ⌝ }
+{
+    let cash = field(l, 1);
+    if !Measure::OpeningCash.allows(cash) {
+        return refused(state);
+    }
+    if field(l, 2) == 1 {
+        opened(fixed::full(), cash)
+    } else {
+        opened(fixed::small(), cash)
     }
 }
 
-// What an accepted order moves and a refused one leaves: holds, the last accepted number, today's buys of the three underlyings.
-fn show(account: Account) {
-    let sheet = account.sheet;
-    number(sheet.holds);
-    number(account.last as u64);
-    bought(account.holdings[0]);
-    bought(account.holdings[1]);
-    bought(account.holdings[2]);
+fn refused(state: Outcome) -> Outcome
+    requires { ⌜ Sound (state .tables) (state .account) ⌝ }
+    ensures { λ r. ⌜ Sound (r .tables) (r .account) ⌝ }
+{
+    let tables = state.tables;
+    let account = state.account;
+    Outcome {
+        verdict: Verdict::Refused(Refusal::OutOfRange),
+        tables,
+        account,
+    }
 }
 
-fn bought(holding: Holding) {
-    number(holding.bought.0 as u64);
+fn opened(tables: Tables, cash: u64) -> Outcome
+    requires { ⌜ SoundTables tables × (cash ≤ 1_000_000_000_000_000) ⌝ }
+    ensures { λ r. ⌜ Sound (r .tables) (r .account) ⌝ }
+{
+    Outcome {
+        verdict: Verdict::Accepted,
+        tables,
+        account: Account::opening(cash),
+    }
 }

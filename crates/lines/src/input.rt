@@ -1,5 +1,5 @@
 // Lines, and what stands in them: a line is a word and then its fields, a space before each.
-ghost use Prim.Native.Nat.{_^_, _≤_, _<_, max};
+ghost use Prim.Native.Nat.{_≤_, max};
 ghost use lib.ListN.{length};
 ghost use mathlib.Core.Path.{_≡_};
 ghost use Rattle.io.specs.Counts.{Counts};
@@ -8,7 +8,7 @@ ghost use Rattle.lines.specs.Ends.{lineEnd};
 // How many bytes an example can lend: more than the 296 of the longest record, so that something can stand around one.
 pub const LENT: usize = 320;
 
-// 2^60: below it a number has room for one more digit of either kind, and for a sign.
+// 2^60: below it a number has room for one more digit of either kind.
 const ROOM: u64 = 1_152_921_504_606_846_976;
 
 // Where the line that starts at `from` ends.
@@ -36,17 +36,6 @@ pub fn half(l: &[u8], k: usize) -> u16 {
 
 pub fn word(l: &[u8], k: usize) -> u32 {
     (field(l, k) % 4_294_967_296) as u32
-}
-
-// The k-th field as a decimal number that may lie below zero, with a minus before its digits.
-pub fn signed(l: &[u8], k: usize) -> i64 {
-    let from = start(l, k);
-    if from < l.len() {
-        if l[from] == b'-' {
-            return 0 - magnitude(l, from + 1) as i64;
-        }
-    }
-    magnitude(l, from) as i64
 }
 
 // The k-th field as a hexadecimal number: these show each byte of a record by itself.
@@ -119,12 +108,6 @@ fn digits(l: &[u8], from: usize, hexadecimal: bool) -> u64 {
         at += 1;
     }
     value
-}
-
-fn magnitude(l: &[u8], from: usize) -> u64
-    ensures { λ r. ⌜ r < 2 ^ 60 ⌝ }
-{
-    digits(l, from, false) % ROOM
 }
 
 fn digit_after(value: u64, b: u8, hexadecimal: bool) -> u64 {

@@ -11,6 +11,16 @@ pub fn number(n: u64) {
     io::print_decimal(STDOUT_FILENO, n);
 }
 
+// A number that may lie below zero, with a minus before its digits.
+pub fn signed(n: i64) {
+    if n < 0 {
+        text(b" -");
+        io::print_decimal(STDOUT_FILENO, (-1 - n) as u64 + 1);
+    } else {
+        number(n as u64);
+    }
+}
+
 pub fn refused(why: Refusal) {
     text(b" refused");
     number(why.number() as u64);

@@ -3,15 +3,14 @@ use Prim.Native.Nat.{_≤_, _+_, _-_}
 use native.Mathlib.Omega.{arith}
 use lib.ListN.{length}
 use Rattle.account.specs.Sound.{Sound}
-use Rattle.account.proofs.OpeningSound.{opening-sound}
 use Rattle.edges.proofs.run.Statement.{statement}
 use Rattle.edges.proofs.run.Tie as tie
 
 abbrev Inv-loop : tie.InvT-loop
-Inv-loop s tables account₀ at₀ account at = Sound tables account × (at ≤ length s + 1)
+Inv-loop s state₀ at₀ state at = Sound (state .tables) (state .account) × (at ≤ length s + 1)
 
 abbrev μ-loop : tie.MeasureT-loop
-μ-loop s tables account₀ at₀ account at = length s + 1 - at
+μ-loop s state₀ at₀ state at = length s + 1 - at
 
 pub run-spec : {M : Type 1} → statement M
 run-spec =
@@ -20,8 +19,8 @@ run-spec =
     Inv-loop
     μ-loop
     (λ c κs. tt)
-    (λ c κs. tt)
-    (λ c. (rw (c .opening .ensures) (opening-sound _ 0 (c .before .tables .ensures) (omega arith)), omega arith))
+    (λ c κs. (c .small .ensures, omega arith))
+    (λ c. (c .opened .ensures, omega arith))
     (λ c κs. tt)
     (λ c. omega arith)
     (λ c. omega arith)

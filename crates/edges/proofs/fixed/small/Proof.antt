@@ -1,9 +1,9 @@
--- `tables` meets its contract: each of its rows has the values that it was made with, and their ranges compute.
+-- `small` meets its contract: each of its rows has the values that it was made with, and their ranges compute.
 use mathlib.Core.Path.{refl}
 use borrow.Author.Needs.{needs}
 use Rattle.account.proofs.Listed.{each-passes}
-use Rattle.edges.proofs.fixed.tables.Statement.{statement}
-use Rattle.edges.proofs.fixed.tables.Tie as tie
+use Rattle.edges.proofs.fixed.small.Statement.{statement}
+use Rattle.edges.proofs.fixed.small.Tie as tie
 
 returns : tie.Need-returns
 returns c =
@@ -17,8 +17,8 @@ returns c =
       contracts = each-passes 5 _ (rw (c .before .before .before .before .contract2 .ensures, c .before .before .before .contract3 .ensures, c .before .before .contract4 .ensures, c .before .contract5 .ensures, c .contract6 .ensures) refl);
     }
 
-pub tables-spec : {M : Type 1} → statement M
-tables-spec =
+pub small-spec : {M : Type 1} → statement M
+small-spec =
     tie.close
     (tie.spec
     (λ c κs. tt)

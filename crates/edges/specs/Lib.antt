@@ -1,0 +1,2 @@
+-- The rows of the full tables.
+pub mod Full

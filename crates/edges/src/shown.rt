@@ -1,0 +1,95 @@
+// What came out: the verdict, the money, the last accepted number, and every row of the account that is not empty.
+use account::Account;
+use account::Holding;
+use account::Outcome;
+use account::Resting;
+use account::Verdict;
+use lines::output::number;
+use lines::output::signed;
+use lines::output::text;
+use money::available;
+use terms::Position;
+ghost use Rattle.account.specs.Sound.{Sound};
+
+// The rows one after the other: positions, holdings, order places.
+const HOLDINGS: usize = terms::CONTRACTS;
+
+const ORDERS: usize = HOLDINGS + terms::UNDERLYINGS;
+
+const ROWS: usize = ORDERS + terms::PLACES;
+
+pub fn show(outcome: Outcome)
+    requires { ⌜ Sound (outcome .tables) (outcome .account) ⌝ }
+{
+    let verdict = outcome.verdict;
+    let account = outcome.account;
+    let sheet = account.sheet;
+    text(b" =");
+    number(code(verdict));
+    signed(available(sheet));
+    number(sheet.cash);
+    number(sheet.premium);
+    number(sheet.holds);
+    number(sheet.margin);
+    number(account.last as u64);
+    rows(account);
+}
+
+fn code(verdict: Verdict) -> u64 {
+    match verdict {
+        Verdict::Accepted => 0,
+        Verdict::Refused(why) => why.number() as u64,
+    }
+}
+
+fn rows(account: Account) {
+    let mut i = 0;
+    while i < ROWS {
+        row(account, i);
+        i += 1;
+    }
+}
+
+fn row(account: Account, i: usize) {
+    if i < HOLDINGS {
+        let held = account.positions[i];
+        position(i, held);
+    } else if i < ORDERS {
+        let stands = account.holdings[i - HOLDINGS];
+        holding(i - HOLDINGS, stands);
+    } else if i < ROWS {
+        let rests = account.orders[i - ORDERS];
+        order(i - ORDERS, rests);
+    }
+}
+
+fn position(contract: usize, held: Position) {
+    if (held.long.0 | held.short.0 | held.covered.0) != 0 {
+        text(b" p");
+        number(contract as u64);
+        number(held.long.0 as u64);
+        number(held.short.0 as u64);
+        number(held.covered.0 as u64);
+    }
+}
+
+fn holding(underlying: usize, stands: Holding) {
+    if (stands.locked.0 != 0) | (stands.bought.0 != 0) {
+        text(b" u");
+        number(underlying as u64);
+        number(stands.locked.0);
+        number(stands.bought.0 as u64);
+    }
+}
+
+fn order(place: usize, rests: Resting) {
+    if rests.number != 0 {
+        text(b" o");
+        number(place as u64);
+        number(rests.number as u64);
+        number(rests.contract as u64);
+        number(rests.kind as u64);
+        number(rests.left.0 as u64);
+        number(rests.price as u64);
+    }
+}
