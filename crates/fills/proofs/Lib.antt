@@ -1,2 +1,2 @@
 -- Laws that the proofs of several functions cite.
-pub mod Standing
+pub mod Behind

@@ -42,7 +42,7 @@ fn cash_after(side: Side, buys: bool, cash: u64, sum: u64) -> u64
     match side {
         Side::Long => shifted(!buys, cash, sum),
         Side::Short => shifted(!buys, cash, sum),
-        Side::Covered => { if buys { cash - sum } else { cash } }
+        Side::Covered => if buys { cash - sum } else { cash },
     }
 }
 
@@ -54,7 +54,7 @@ fn premium_after(side: Side, buys: bool, premium: u64, sum: u64) -> u64
     match side {
         Side::Long => premium,
         Side::Short => premium,
-        Side::Covered => { if buys { premium } else { premium + sum } }
+        Side::Covered => if buys { premium } else { premium + sum },
     }
 }
 

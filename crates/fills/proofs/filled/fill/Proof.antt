@@ -10,47 +10,62 @@ use Rattle.terms.specs.declared.refusal.Refusal.the-variants.{OutOfRange, NoSuc
 use Rattle.terms.proofs.Ranges.{first-holds, second-holds}
 use Rattle.entries.specs.declared.entry.Fill.{Fill}
 use Rattle.account.specs.Changes.{decided}
-use Rattle.account.specs.Fills.{fillChange, fillVerdict, named, namedAt, placeOf}
+use Rattle.account.specs.Fills.{fillChange, fillVerdict, named, namedAt}
 use Rattle.account.specs.Rows.{order}
-use Rattle.account.specs.Sound.{Sound}
 use Rattle.account.specs.declared.account.Account.{Account}
 use Rattle.account.specs.declared.judged.Decision.{Decision}
 use Rattle.account.specs.declared.judged.Decision.the-variants.{Refused}
 use Rattle.account.specs.declared.judged.Named.{Named}
 use Rattle.account.specs.declared.tables.Tables.{Tables}
 use Rattle.fills.specs.Takes.{Fillable}
-use Rattle.fills.proofs.Standing.{fillable, named-there, rests, within}
+use Rattle.fills.proofs.Behind.{fillable, named-there, rests, within}
 use Rattle.fills.proofs.filled.fill.Statement.{statement}
 use Rattle.fills.proofs.filled.fill.Tie as tie
 
-module _ (t : Tables) (a : Account) (fill : Fill) (counted priced : Bool) (counts : counted ≡ (fill .quantity ∈ rangeOf Quantity)) (prices : priced ≡ (fill .price ∈ rangeOf Price)) where
-  abbrev decision : Named → Decision
-  decision f = decided (fillVerdict f fill) (fillChange f fill)
+abbrev decision : Fill → Named → Decision
+decision fill f = decided (fillVerdict f fill) (fillChange f fill)
 
-  abbrev its : Named
-  its = named t a (fill .number)
-
-  out : not (counted && priced) ≡ true → Refused OutOfRange ≡ decision its
+-- both values are tested
+module _ (fill : Fill) {counted priced : Bool} (counts : counted ≡ (fill .quantity ∈ rangeOf Quantity)) (prices : priced ≡ (fill .price ∈ rangeOf Price)) where
+  out : (f : Named) → not (counted && priced) ≡ true → Refused OutOfRange ≡ decision fill f
   unfolding fillVerdict
-  out fails = rw (← counts, ← prices, not-true (counted && priced) fails) refl
+  out f fails = rw (← counts, ← prices, not-true (counted && priced) fails) refl
 
-  module _ (allowed : not (counted && priced) ≡ false) (place : ℕ) (here : place ≡ placeOf a (fill .number)) where
-    quantity : (fill .quantity ∈ rangeOf Quantity) ≡ true
-    quantity = sym counts ∙ first-holds counted priced (not-false (counted && priced) allowed)
+  inside : not (counted && priced) ≡ false → ((fill .quantity ∈ rangeOf Quantity) ≡ true) × ((fill .price ∈ rangeOf Price) ≡ true)
+  inside passes =
+      let both = not-false (counted && priced) passes in
+      (sym counts ∙ first-holds counted priced both, sym prices ∙ second-holds counted priced both)
 
-    price : (fill .price ∈ rangeOf Price) ≡ true
-    price = sym prices ∙ second-holds counted priced (not-false (counted && priced) allowed)
+-- the function once the place is found
+module _ (p : tie.After-place-of) where
+  abbrev start : tie.Start
+  start = p .before .before .before .before .before .before
 
-    none : 32 ≤ place → Refused NoSuchOrder ≡ decision its
-    unfolding fillVerdict named
-    none past = rw (quantity, price, ← here, le-ltb place 32 past) refl
+  abbrev t : Tables
+  t = start .args .tables
 
-    module _ (there : place < 32) (f : Named) (gathered : f ≡ namedAt t a place (order a place)) where
-      can : Sound t a → Fillable f fill
-      can sound = subst (λ (f : Named). Fillable f fill) (sym (named-there t a (fill .number) here gathered)) (fillable t a sound fill (within t a (fill .number) here there) quantity price)
+  abbrev a : Account
+  a = start .args .account
 
-      decides : (result : Decision) → result ≡ decision f → result ≡ decision its
-      decides result e = e ∙ ap decision (named-there t a (fill .number) here gathered)
+  abbrev its : Fill
+  its = start .args .fill
+
+  abbrev place : ℕ
+  place = p .place-of .result
+
+  ranges : ((its .quantity ∈ rangeOf Quantity) ≡ true) × ((its .price ∈ rangeOf Price) ≡ true)
+  ranges = inside its (p .before .before .before .before .allows .ensures) (p .before .before .allows2 .ensures) (p .before .if1 .left)
+
+  none : 32 ≤ place → Refused NoSuchOrder ≡ decision its (named t a (its .number))
+  unfolding fillVerdict named
+  none past = rw (ranges .0, ranges .1, ← p .place-of .ensures, le-ltb place 32 past) refl
+
+  module _ {f : Named} (gathered : f ≡ namedAt t a place (order a place)) where
+    is-named : f ≡ named t a (its .number)
+    is-named = named-there t a (its .number) (p .place-of .ensures) gathered
+
+    can : place < 32 → Fillable f its
+    can there = subst (λ (f : Named). Fillable f its) (sym is-named) (fillable t a (start .pre) its (within t a (its .number) (p .place-of .ensures) there) (ranges .0) (ranges .1))
 
 pub fill-spec : {M : Type 1} → statement M
 fill-spec =
@@ -61,19 +76,10 @@ fill-spec =
     (λ c. search needs)
     (λ c κs. search needs)
     (λ c.
-    let start = c .before .before .before .before .before in
-    out (start .args .tables) (start .args .account) (start .args .fill) _ _ (c .before .before .before .allows .ensures) (c .before .allows2 .ensures) (c .if1 .taken))
+    let args = c .before .before .before .before .before .args in
+    out (args .fill) (c .before .before .before .allows .ensures) (c .before .allows2 .ensures) (named (args .tables) (args .account) (args .fill .number)) (c .if1 .taken))
     (λ c κs. search needs)
-    (λ c.
-    let if1 = c .before .before in
-    let start = if1 .before .before .before .before .before in
-    none (start .args .tables) _ (start .args .fill) _ _ (if1 .before .before .before .allows .ensures) (if1 .before .allows2 .ensures) (if1 .if1 .left) _ (c .before .place-of .ensures) (c .if2 .taken))
-    (λ c κs. rests _ _ _ (c .before .place-of .ensures) (c .before .before .before .before .before .before .before .pre) (c .if2 .left))
-    (λ c κs.
-    let if1 = c .before .before .before in
-    let start = if1 .before .before .before .before .before in
-    can (start .args .tables) _ (start .args .fill) _ _ (if1 .before .before .before .allows .ensures) (if1 .before .allows2 .ensures) (if1 .if1 .left) _ (c .before .before .place-of .ensures) (c .before .if2 .left) _ (c .named-at .ensures) (start .pre))
-    (λ c.
-    let if1 = c .before .before .before .before in
-    let start = if1 .before .before .before .before .before in
-    decides (start .args .tables) _ (start .args .fill) _ _ (if1 .before .before .before .allows .ensures) (if1 .before .allows2 .ensures) (if1 .if1 .left) _ (c .before .before .before .place-of .ensures) (c .before .before .if2 .left) _ (c .before .named-at .ensures) _ (c .decide .ensures)))
+    (λ c. none (c .before) (c .if2 .taken))
+    (λ c κs. rests _ _ _ (c .before .place-of .ensures) (start (c .before) .pre) (c .if2 .left))
+    (λ c κs. can (c .before .before) (c .named-at .ensures) (c .before .if2 .left))
+    (λ c. c .decide .ensures ∙ ap (decision _) (is-named (c .before .before .before) (c .before .named-at .ensures))))

@@ -5,7 +5,7 @@ use Rattle.account.specs.Rows.{contract, order}
 use Rattle.account.specs.declared.account.Account.{Account}
 use Rattle.account.specs.declared.account.Resting.{Resting}
 use Rattle.account.specs.declared.tables.Tables.{Tables}
-use Rattle.fills.proofs.Standing as standing
+use Rattle.fills.proofs.Behind as behind
 use Rattle.fills.proofs.named.named_at.Statement.{statement}
 use Rattle.fills.proofs.named.named_at.Tie as tie
 
@@ -21,10 +21,10 @@ module _ (start : tie.Start) where
   r = order a (start .args .place)
 
   contract-inside : r .contract < 64
-  contract-inside = standing.contract-inside t a _ (start .pre .0) (start .pre .1) (start .pre .2)
+  contract-inside = behind.contract-inside t a _ (start .pre .0) (start .pre .1) (start .pre .2)
 
   underlying-inside : contract t (r .contract) .underlying < 8
-  underlying-inside = standing.underlying-inside t a _ (start .pre .0) (start .pre .1) (start .pre .2)
+  underlying-inside = behind.underlying-inside t a _ (start .pre .0) (start .pre .1) (start .pre .2)
 
 pub named-at-spec : {M : Type 1} → statement M
 named-at-spec =
@@ -47,7 +47,7 @@ named-at-spec =
     (λ c κs. search needs)
     (λ c.
     let start = c .before .before .before .before .before .before .before .before .before .before .before in
-    standing.put-together (t start) (a start) _ (start .pre .0) (start .pre .1) (start .pre .2) _ _ _
+    behind.put-together (t start) (a start) _ (start .pre .0) (start .pre .1) (start .pre .2) _ _ _
     (c .before .before .kind-of .ensures)
     (c .before .hold-one .ensures)
     (c .margin-one .ensures)))
