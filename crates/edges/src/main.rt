@@ -13,6 +13,7 @@ use asked::letter;
 use lines::input::field;
 use lines::input::line_end;
 use lines::output::text;
+use shown::rows;
 use shown::show;
 use steps::step;
 use terms::Measure;
@@ -55,7 +56,11 @@ fn answer(state: Outcome, l: &[u8]) -> Outcome
         return state;
     }
     let after = booked(state, l);
-    show(after);
+    let verdict = after.verdict;
+    let account = after.account;
+    let sheet = account.sheet;
+    show(verdict, sheet, account.last);
+    rows(account);
     after
 }
 

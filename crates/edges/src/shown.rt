@@ -1,15 +1,15 @@
 // What came out: the verdict, the money, the last accepted number, and every row of the account that is not empty.
 use account::Account;
 use account::Holding;
-use account::Outcome;
 use account::Resting;
+use account::Sheet;
 use account::Verdict;
 use lines::output::number;
 use lines::output::signed;
 use lines::output::text;
 use money::available;
 use terms::Position;
-ghost use Rattle.account.specs.Sound.{Sound};
+ghost use Rattle.account.specs.Sound.{SoundSheet};
 
 // The rows one after the other: positions, holdings, order places.
 const HOLDINGS: usize = terms::CONTRACTS;
@@ -18,12 +18,9 @@ const ORDERS: usize = HOLDINGS + terms::UNDERLYINGS;
 
 const ROWS: usize = ORDERS + terms::PLACES;
 
-pub fn show(outcome: Outcome)
-    requires { ⌜ Sound (outcome .tables) (outcome .account) ⌝ }
+pub fn show(verdict: Verdict, sheet: Sheet, last: u32)
+    requires { ⌜ SoundSheet sheet ⌝ }
 {
-    let verdict = outcome.verdict;
-    let account = outcome.account;
-    let sheet = account.sheet;
     text(b" =");
     number(code(verdict));
     signed(available(sheet));
@@ -31,8 +28,7 @@ pub fn show(outcome: Outcome)
     number(sheet.premium);
     number(sheet.holds);
     number(sheet.margin);
-    number(account.last as u64);
-    rows(account);
+    number(last as u64);
 }
 
 fn code(verdict: Verdict) -> u64 {
@@ -42,7 +38,7 @@ fn code(verdict: Verdict) -> u64 {
     }
 }
 
-fn rows(account: Account) {
+pub fn rows(account: Account) {
     let mut i = 0;
     while i < ROWS {
         row(account, i);
