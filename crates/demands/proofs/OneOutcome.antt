@@ -9,8 +9,15 @@ use Rattle.writing.specs.Writing.{recordOf, bufferAfter}
 use Rattle.writing.specs.declared.Written.{Written}
 use Rattle.writing.proofs.write.Reads as write
 use Rattle.gathering.proofs.gather.Reads as gather
-use Rattle.orders.proofs.decide.Reads as decide
-use Rattle.orders.proofs.book_order.Reads as book-order
+use Rattle.transfers.proofs.deposit.Reads as deposit
+use Rattle.transfers.proofs.withdraw.Reads as withdraw
+use Rattle.transfers.proofs.lock.Reads as lock
+use Rattle.transfers.proofs.unlock.Reads as unlock
+use Rattle.orders.proofs.order.Reads as order
+use Rattle.fills.proofs.fill.Reads as fill
+use Rattle.fills.proofs.cancel.Reads as cancel
+use Rattle.day_end.proofs.day_end.Reads as day-end
+use Rattle.steps.proofs.step.Reads as step
 
 pub margin-one : (κs : _) (a : _) (r r' : _) (s s' : _) → margin.Post κs a r s → margin.Post κs a r' s' → r ≡ r'
 margin-one κs a r r' s s' p q = p ∙ sym q
@@ -33,8 +40,29 @@ write-one κs a r r' s s' p q =
 pub gather-one : (κs : _) (a : _) (r r' : _) (s s' : _) → gather.Post κs a r s → gather.Post κs a r' s' → r ≡ r'
 gather-one κs a r r' s s' p q = p ∙ sym q
 
-pub decide-one : (κs : _) (a : _) (r r' : _) (s s' : _) → decide.Post κs a r s → decide.Post κs a r' s' → r ≡ r'
-decide-one κs a r r' s s' p q = p ∙ sym q
+pub deposit-one : (κs : _) (a : _) (r r' : _) (s s' : _) → deposit.Post κs a r s → deposit.Post κs a r' s' → r ≡ r'
+deposit-one κs a r r' s s' p q = p ∙ sym q
 
-pub book-order-one : (κs : _) (a : _) (r r' : _) (s s' : _) → book-order.Post κs a r s → book-order.Post κs a r' s' → r ≡ r'
-book-order-one κs a r r' s s' p q = p ∙ sym q
+pub withdraw-one : (κs : _) (a : _) (r r' : _) (s s' : _) → withdraw.Post κs a r s → withdraw.Post κs a r' s' → r ≡ r'
+withdraw-one κs a r r' s s' p q = p ∙ sym q
+
+pub lock-one : (κs : _) (a : _) (r r' : _) (s s' : _) → lock.Post κs a r s → lock.Post κs a r' s' → r ≡ r'
+lock-one κs a r r' s s' p q = p ∙ sym q
+
+pub unlock-one : (κs : _) (a : _) (r r' : _) (s s' : _) → unlock.Post κs a r s → unlock.Post κs a r' s' → r ≡ r'
+unlock-one κs a r r' s s' p q = p ∙ sym q
+
+pub order-one : (κs : _) (a : _) (r r' : _) (s s' : _) → order.Post κs a r s → order.Post κs a r' s' → r ≡ r'
+order-one κs a r r' s s' p q = p ∙ sym q
+
+pub fill-one : (κs : _) (a : _) (r r' : _) (s s' : _) → fill.Post κs a r s → fill.Post κs a r' s' → r ≡ r'
+fill-one κs a r r' s s' p q = p ∙ sym q
+
+pub cancel-one : (κs : _) (a : _) (r r' : _) (s s' : _) → cancel.Post κs a r s → cancel.Post κs a r' s' → r ≡ r'
+cancel-one κs a r r' s s' p q = p ∙ sym q
+
+pub day-end-one : (κs : _) (a : _) (r r' : _) (s s' : _) → day-end.Post κs a r s → day-end.Post κs a r' s' → r ≡ r'
+day-end-one κs a r r' s s' p q = p ∙ sym q
+
+pub step-one : (κs : _) (a : _) (r r' : _) (s s' : _) → step.Post κs a r s → step.Post κs a r' s' → r ≡ r'
+step-one κs a r r' s s' p q = p ∙ sym q
