@@ -1,2 +1,2 @@
--- The rows of the full tables.
-pub mod Full
+-- The rows of the two tables.
+pub mod Fixed

@@ -1,54 +1,97 @@
-// The two tables that entries are booked on here.
+// The two tables that entries are booked on here: small ones, and full ones with every row taken.
 use account::Tables;
 use entries::Contract;
 use entries::Underlying;
 use terms::Class;
 use terms::Right;
 ghost use mathlib.Core.Path.{_≡_};
-ghost use Prim.Native.Nat.{_<_};
-ghost use Rattle.account.specs.Sound.{SoundTables};
-ghost use Rattle.edges.specs.Full.{inTurn, rightOf};
+ghost use mathlib.Core.Bool.{true};
+ghost use Prim.Native.Nat.{_≤_, _<_};
+ghost use Rattle.account.specs.Rows.{noContract, noUnderlying};
+ghost use Rattle.account.specs.Sound.{SoundTables, contractAllowed, underlyingAllowed};
+ghost use Rattle.edges.specs.Fixed.{Filled, count, inTurn, rightOf};
 
-// Rights and total can be reached in underlying 0 and daily in underlying 1; underlying 2 leaves room for what the limits are not to disturb.
-pub fn small() -> Tables
+pub fn tables(full: bool) -> Tables
     ensures { λ r. ⌜ SoundTables r ⌝ }
 {
-    let mut underlyings = [underlying(Class::Stock, 0, 0, 0, 0); terms::UNDERLYINGS];
-    underlyings[0] = underlying(Class::Fund, 25_000, 20, 50, 30);
-    underlyings[1] = underlying(Class::Stock, 100_000, 10_000, 10_000, 100);
-    underlyings[2] = underlying(Class::Fund, 50, 10_000, 10_000, 10_000);
-    let mut contracts = [contract(0, Right::Call, 0, 0, 0); terms::CONTRACTS];
-    contracts[0] = contract(0, Right::Call, 26_000, 10_000, 500);
-    contracts[1] = contract(0, Right::Put, 24_000, 10_000, 400);
-    contracts[2] = contract(1, Right::Call, 100_000, 5_000, 5_000);
-    contracts[3] = contract(1, Right::Put, 100_000, 5_000, 5_000);
-    contracts[4] = contract(2, Right::Call, 53, 100, 0);
-    Tables {
-        underlyings,
-        m: 3,
-        contracts,
-        n: 5,
+    if full {
+        Tables {
+            underlyings: underlyings(true, terms::UNDERLYINGS),
+            m: terms::UNDERLYINGS,
+            contracts: contracts(true, terms::CONTRACTS),
+            n: terms::CONTRACTS,
+        }
+    } else {
+        Tables {
+            underlyings: underlyings(false, 3),
+            m: 3,
+            contracts: contracts(false, 5),
+            n: 5,
+        }
     }
 }
 
-// Every row taken: 8 underlyings alike, and 64 contracts on them in turn, each with a unit, a strike and a settlement of its own.
-pub fn full() -> Tables
-    ensures { λ r. ⌜ SoundTables r ⌝ }
+fn underlyings(full: bool, m: usize) -> [Underlying; terms::UNDERLYINGS]
+    requires { ⌜ m ≤ 8 ⌝ }
+    ensures { λ r. ⌜ Filled 8 noUnderlying (λ p. underlyingAllowed p ≡ true) r m ⌝ }
 {
-    let mut contracts = [contract(0, Right::Call, 0, 0, 0); terms::CONTRACTS];
+    let mut rows = [underlying(Class::Stock, 0, 0, 0, 0); terms::UNDERLYINGS];
+    let mut u = 0;
+    while u < m {
+        rows[u] = underlying_of(full, u);
+        u += 1;
+    }
+    rows
+}
+
+// Rights and total can be reached in underlying 0 and daily in underlying 1; underlying 2 leaves room for what the limits are not to
+// disturb. Those of the full tables are all alike.
+fn underlying_of(full: bool, u: usize) -> Underlying
+    ensures { λ r. ⌜ underlyingAllowed r ≡ true ⌝ }
+{
+    if full {
+        return underlying(Class::Fund, 30_000, 60, 90, 70);
+    }
+    match u {
+        0 => underlying(Class::Fund, 25_000, 20, 50, 30),
+        1 => underlying(Class::Stock, 100_000, 10_000, 10_000, 100),
+        _ => underlying(Class::Fund, 50, 10_000, 10_000, 10_000),
+    }
+}
+
+fn contracts(full: bool, n: usize) -> [Contract; terms::CONTRACTS]
+    requires { ⌜ n ≤ 64 ⌝ }
+    ensures { λ r. ⌜ Filled 64 noContract (λ k. contractAllowed (count full) k ≡ true) r n ⌝ }
+{
+    let mut rows = [contract(0, Right::Call, 0, 0, 0); terms::CONTRACTS];
     let mut c = 0;
-    while c < terms::CONTRACTS {
-        contracts[c] = in_turn(c as u16);
+    while c < n {
+        rows[c] = contract_of(full, c as u16);
         c += 1;
     }
-    Tables {
-        underlyings: [underlying(Class::Fund, 30_000, 60, 90, 70); terms::UNDERLYINGS],
-        m: terms::UNDERLYINGS,
-        contracts,
-        n: terms::CONTRACTS,
+    rows
+}
+
+fn contract_of(full: bool, c: u16) -> Contract
+    requires { ⌜ c < 64 ⌝ }
+    ensures { λ r. ⌜ contractAllowed (count full) r ≡ true ⌝ }
+{
+    if full { in_turn(c) } else { few(c) }
+}
+
+fn few(c: u16) -> Contract
+    ensures { λ r. ⌜ contractAllowed 3 r ≡ true ⌝ }
+{
+    match c {
+        0 => contract(0, Right::Call, 26_000, 10_000, 500),
+        1 => contract(0, Right::Put, 24_000, 10_000, 400),
+        2 => contract(1, Right::Call, 100_000, 5_000, 5_000),
+        3 => contract(1, Right::Put, 100_000, 5_000, 5_000),
+        _ => contract(2, Right::Call, 53, 100, 0),
     }
 }
 
+// On 8 underlyings in turn, each with a strike, a unit and a settlement of its own.
 fn in_turn(c: u16) -> Contract
     requires { ⌜ c < 64 ⌝ }
     ensures { λ r. ⌜ r ≡ inTurn c ⌝ }

@@ -5,7 +5,6 @@ mod shown;
 
 use account::Account;
 use account::Outcome;
-use account::Tables;
 use account::Verdict;
 use asked::entry;
 use asked::figures;
@@ -19,7 +18,7 @@ use steps::step;
 use terms::Measure;
 use terms::Refusal;
 ghost use Prim.Native.Nat.{_≤_};
-ghost use Rattle.account.specs.Sound.{Sound, SoundTables};
+ghost use Rattle.account.specs.Sound.{Sound};
 
 fn main() {
     let mut buffer = io::large_buffer();
@@ -28,7 +27,7 @@ fn main() {
 }
 
 fn run(s: &[u8]) {
-    let mut state = opened(fixed::small(), 0);
+    let mut state = opened(false, 0);
     let mut at = 0;
     while at < s.len() {
         let stop = line_end(s, at);
@@ -37,22 +36,14 @@ fn run(s: &[u8]) {
     }
 }
 
+// A line that begins with '#', or with nothing, is a remark.
 fn line(state: Outcome, l: &[u8]) -> Outcome
     requires { ⌜ Sound (state .tables) (state .account) ⌝ }
     ensures { λ r. ⌜ Sound (r .tables) (r .account) ⌝ }
 {
     text(l);
-    let after = answer(state, l);
-    text(b"\n");
-    after
-}
-
-// A line that begins with '#', or with nothing, is a remark.
-fn answer(state: Outcome, l: &[u8]) -> Outcome
-    requires { ⌜ Sound (state .tables) (state .account) ⌝ }
-    ensures { λ r. ⌜ Sound (r .tables) (r .account) ⌝ }
-{
     if letter(l, 0) == b'#' {
+        text(b"\n");
         return state;
     }
     let after = booked(state, l);
@@ -61,6 +52,7 @@ fn answer(state: Outcome, l: &[u8]) -> Outcome
     let sheet = account.sheet;
     show(verdict, sheet, account.last);
     rows(account);
+    text(b"\n");
     after
 }
 
@@ -83,20 +75,9 @@ fn open(state: Outcome, l: &[u8]) -> Outcome
     ensures { λ r. ⌜ Sound (r .tables) (r .account) ⌝ }
 {
     let cash = field(l, 1);
-    if !Measure::OpeningCash.allows(cash) {
-        return refused(state);
+    if Measure::OpeningCash.allows(cash) {
+        return opened(field(l, 2) == 1, cash);
     }
-    if field(l, 2) == 1 {
-        opened(fixed::full(), cash)
-    } else {
-        opened(fixed::small(), cash)
-    }
-}
-
-fn refused(state: Outcome) -> Outcome
-    requires { ⌜ Sound (state .tables) (state .account) ⌝ }
-    ensures { λ r. ⌜ Sound (r .tables) (r .account) ⌝ }
-{
     let tables = state.tables;
     let account = state.account;
     Outcome {
@@ -106,13 +87,13 @@ fn refused(state: Outcome) -> Outcome
     }
 }
 
-fn opened(tables: Tables, cash: u64) -> Outcome
-    requires { ⌜ SoundTables tables × (cash ≤ 1_000_000_000_000_000) ⌝ }
+fn opened(full: bool, cash: u64) -> Outcome
+    requires { ⌜ cash ≤ 1_000_000_000_000_000 ⌝ }
     ensures { λ r. ⌜ Sound (r .tables) (r .account) ⌝ }
 {
     Outcome {
         verdict: Verdict::Accepted,
-        tables,
+        tables: fixed::tables(full),
         account: Account::opening(cash),
     }
 }

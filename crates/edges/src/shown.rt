@@ -41,21 +41,17 @@ fn code(verdict: Verdict) -> u64 {
 pub fn rows(account: Account) {
     let mut i = 0;
     while i < ROWS {
-        row(account, i);
+        if i < HOLDINGS {
+            let held = account.positions[i];
+            position(i, held);
+        } else if i < ORDERS {
+            let stands = account.holdings[i - HOLDINGS];
+            holding(i - HOLDINGS, stands);
+        } else {
+            let rests = account.orders[i - ORDERS];
+            order(i - ORDERS, rests);
+        }
         i += 1;
-    }
-}
-
-fn row(account: Account, i: usize) {
-    if i < HOLDINGS {
-        let held = account.positions[i];
-        position(i, held);
-    } else if i < ORDERS {
-        let stands = account.holdings[i - HOLDINGS];
-        holding(i - HOLDINGS, stands);
-    } else if i < ROWS {
-        let rests = account.orders[i - ORDERS];
-        order(i - ORDERS, rests);
     }
 }
 

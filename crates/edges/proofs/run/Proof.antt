@@ -18,8 +18,7 @@ run-spec =
     (tie.spec
     Inv-loop
     μ-loop
-    (λ c κs. tt)
-    (λ c κs. (c .small .ensures, omega arith))
+    (λ c κs. omega arith)
     (λ c. (c .opened .ensures, omega arith))
     (λ c κs. tt)
     (λ c. omega arith)

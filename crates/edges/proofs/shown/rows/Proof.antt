@@ -1,6 +1,7 @@
--- `rows` is safe and ends: it goes on only below the last row.
+-- `rows` is safe and ends: each row's number is below its array's end, and it goes on only below the last row.
 use Prim.Native.Nat.{_≤_, _-_}
 use native.Mathlib.Omega.{arith}
+use borrow.Author.Needs.{needs}
 use Rattle.edges.proofs.shown.rows.Statement.{statement}
 use Rattle.edges.proofs.shown.rows.Tie as tie
 
@@ -16,6 +17,14 @@ rows-spec =
     (tie.spec
     Inv-loop
     μ-loop
+    (λ c. omega arith)
+    (λ c. search needs)
+    (λ c. omega arith)
+    (λ c κs. tt)
+    (λ c. search needs)
+    (λ c. omega arith)
+    (λ c κs. tt)
+    (λ c. search needs)
     (λ c. omega arith)
     (λ c κs. tt)
     (λ c. omega arith)
