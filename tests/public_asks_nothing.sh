@@ -1,13 +1,15 @@
 # No public function of a library asks anything of its caller: bad input is refused by number, never required away.
-# A step on an account in hand is no public entry (document 01, "What the proofs owe"): it may ask that the account is sound, and nothing else.
+# A step on an account or a money sheet in hand is no public entry (document 01, "What the proofs owe"): it may ask that what it is
+# given is sound, and nothing else.
 set -eu
+cd "$(dirname "$0")/.."
 asks=$(awk '
-    FNR == 1 { public = 0; step = FILENAME ~ /^crates\/(gathering|orders)\// }
+    FNR == 1 { public = 0; step = FILENAME ~ /^crates\/(money|totals|gathering|orders|resting|fills|transfers|day_end|steps)\// }
     /^ *(pub(\([a-z]+\))? )?(extern "C" )?fn / { public = /^ *pub / }
-    public && /^ *requires/ && !(step && /^ *requires \{ ⌜ Sound tables account ⌝ \}$/) { print FILENAME ":" FNR ": " $0 }
-' $(find crates -name '*.rt'))
+    public && /^ *requires/ && !(step && /^ *requires \{ ⌜ (Sound tables account|SoundSheet sheet) ⌝ \}$/) { print FILENAME ":" FNR ": " $0 }
+' $(find crates -name '*.rt' ! -path 'crates/edges/*' ! -path 'crates/cases/*'))
 if [ -n "$asks" ]; then
     printf 'a public function with a requires:\n%s\n' "$asks"
     exit 1
 fi
-echo "public functions ask nothing of their callers, steps on an account only that it is sound"
+echo "public functions ask nothing of their callers, steps only that account or sheet is sound"
