@@ -4,10 +4,10 @@
 set -eu
 cd "$(dirname "$0")/.."
 asks=$(awk '
-    FNR == 1 { public = 0; step = FILENAME ~ /^crates\/(money|totals|gathering|orders|resting|fills|transfers|day_end|steps)\// }
+    FNR == 1 { public = 0; step = FILENAME ~ /^crates\/(money|totals|gathering|orders|resting|fills|transfers|day_end|steps|edges)\// }
     /^ *(pub(\([a-z]+\))? )?(extern "C" )?fn / { public = /^ *pub / }
     public && /^ *requires/ && !(step && /^ *requires \{ ⌜ (Sound tables account|SoundSheet sheet) ⌝ \}$/) { print FILENAME ":" FNR ": " $0 }
-' $(find crates -name '*.rt' ! -path 'crates/edges/*' ! -path 'crates/cases/*'))
+' $(find crates -name '*.rt'))
 if [ -n "$asks" ]; then
     printf 'a public function with a requires:\n%s\n' "$asks"
     exit 1
