@@ -1,11 +1,10 @@
--- What stands behind a resting order of a sound account: its rows are inside the arrays and its figures in their ranges, so what is charged is what one contract costs; and what a fill or a cancel of it takes off is there.
-use mathlib.Core.Path.{_≡_, refl, ap, _∙_}
-use mathlib.Core.Bool.{true, false, not}
+-- What stands behind a resting order of a sound account: what a fill or a cancel of it takes off is there, and what a fill adds to stays small.
+use mathlib.Core.Path.{_≡_, refl}
+use mathlib.Core.Bool.{true, false}
 use Prim.Native.Nat.{ℕ, _+_, _*_, _^_, _≤_, _<_}
 use native.Mathlib.Nat.{le-of-lt, mul-le-mul}
 use native.Mathlib.Omega.{arith}
 use borrow.Author.Tests.{not-false, lt-ltb}
-use lib.Dec.{ltb}
 use Rattle.terms.specs.Kinds.{movesOf, opensOf}
 use Rattle.terms.specs.Ranges.{rangeOf, _∈_}
 use Rattle.terms.specs.declared.kind.OrderKind.{OrderKind}
@@ -14,92 +13,20 @@ use Rattle.terms.specs.declared.kind.Side.the-variants.{Short}
 use Rattle.terms.specs.declared.measure.Measure.the-variants.{Price, Quantity}
 use Rattle.terms.proofs.Ranges.{inside}
 use Rattle.rules.specs.Count.{forCount}
-use Rattle.rules.specs.Charges.{marginAllowed}
-use Rattle.entries.specs.declared.entry.Contract.{Contract}
 use Rattle.entries.specs.declared.entry.Fill.{Fill}
-use Rattle.entries.specs.declared.entry.Underlying.{Underlying}
-use Rattle.account.specs.Fills.{cancelVerdict, fillVerdict, named, namedAt, paid, placeOf}
+use Rattle.account.specs.Fills.{cancelVerdict, fillVerdict, named, paid, placeOf}
 use Rattle.account.specs.Money.{kindOf}
-use Rattle.account.specs.Orders.{coveredPut, orderAllowed}
-use Rattle.account.specs.Rows.{contract, holding, order, position, underlying}
-use Rattle.account.specs.Sound.{Sound, SoundOrder, asOrder}
+use Rattle.account.specs.Orders.{orderAllowed}
+use Rattle.account.specs.Sound.{Sound, asOrder}
 use Rattle.account.specs.declared.account.Account.{Account}
-use Rattle.account.specs.declared.account.Resting.{Resting}
 use Rattle.account.specs.declared.judged.Named.{Named}
 use Rattle.account.specs.declared.judged.Verdict.the-variants.{Accepted}
 use Rattle.account.specs.declared.tables.Tables.{Tables}
-use Rattle.account.proofs.Allowed.{contract-known, underlying-known}
-use Rattle.account.proofs.Bounds.{count-of, figures-allowed, four, one-hold, one-margin, one-premium, order-figures, row-of, sheet-sound}
+use Rattle.account.proofs.Allowed.{contract-known}
+use Rattle.account.proofs.Bounds.{count-of, one-hold, one-margin, one-premium, order-figures, row-of, sheet-sound}
 use Rattle.account.proofs.NothingShort.{cancel-exact, fill-exact}
 use Rattle.account.proofs.Taken.{found}
-use Rattle.money.specs.Charged.{holdCharged, marginCharged}
-use Rattle.money.proofs.Charged.{hold-charged, margin-charged}
 use Rattle.fills.specs.Takes.{Cancellable, Exact, Fillable}
-
--- an order has the number, and what is gathered at its place is what the number names
-module _ (t : Tables) (a : Account) (number : ℕ) {place : ℕ} (here : place ≡ placeOf a number) where
-  pub within : place < 32 → placeOf a number < 32
-  within there = rw here at there
-
-  pub rests : Sound t a → place < 32 → Sound t a × (place < 32) × (1 ≤ order a place .number)
-  rests sound there = (sound, there, rw here (found a number (within there)))
-
-  pub named-there : {f : Named} → f ≡ namedAt t a place (order a place) → f ≡ named t a number
-  unfolding named
-  named-there gathered = gathered ∙ ap (λ (i : ℕ). namedAt t a i (order a i)) here
-
--- an order rests at a place
-module _ (t : Tables) (a : Account) (place : ℕ) (sound : Sound t a) (there : place < 32) (some : 1 ≤ order a place .number) where
-  abbrev r : Resting
-  r = order a place
-
-  abbrev k : Contract
-  k = contract t (r .contract)
-
-  abbrev p : Underlying
-  p = underlying t (k .underlying)
-
-  resting : SoundOrder t (a .last) r
-  resting = sound .resting place there some
-
-  pub known : r .contract < t .n
-  known = contract-known t (asOrder r) (resting .allowed)
-
-  pub contract-inside : r .contract < 64
-  contract-inside = let few = sound .tables .fewContracts in omega (arith, known, few)
-
-  pub underlying-inside : k .underlying < 8
-  underlying-inside =
-      let few = sound .tables .fewUnderlyings in
-      omega (arith, underlying-known t (asOrder r) (resting .allowed) (sound .tables), few)
-
-  priced : (r .price ∈ rangeOf Price) ≡ true
-  unfolding orderAllowed
-  priced =
-      let quantity = r .left .0 ∈ rangeOf Quantity in
-      let call = not (coveredPut (movesOf (kindOf r)) (k .right)) in
-      four quantity (r .price ∈ rangeOf Price) (ltb (r .contract) (t .n)) call (resting .allowed) .1
-
-  allowed : marginAllowed (k .settlement) (p .close) (k .strike) (k .unit) ≡ true
-  allowed = figures-allowed (sound .tables) (r .contract) known
-
-  -- the facts as they are put together are those of the definition
-  pub put-together : (kind : OrderKind) (hold margin : ℕ) → kind ≡ kindOf r → hold ≡ holdCharged kind k p (r .price) → margin ≡ marginCharged k p
-      → record {
-        place = place;
-        order = r;
-        position = position a (r .contract);
-        unit = k .unit;
-        underlying = k .underlying;
-        holding = holding a (k .underlying);
-        hold = hold;
-        margin = margin;
-        sheet = a .sheet;
-        last = a .last;
-      }
-      ≡ namedAt t a place r
-  put-together kind hold margin kinds holds margins =
-      rw (holds, margins, kinds, hold-charged k p allowed (kindOf r) (r .price) priced, margin-charged k p allowed) refl
 
 -- of the kinds that move short, 4 alone closes
 buy-close : (kind : OrderKind) → movesOf kind ≡ Short → opensOf kind ≡ false → kind ≡ BuyClose
@@ -118,9 +45,12 @@ module _ (t : Tables) (a : Account) (sound : Sound t a) where
     few : fill .quantity ≤ 100
     few = inside _ (rangeOf Quantity) quantity .1
 
-    its-contract : f .order .contract < t .n
+    values : orderAllowed t (asOrder (f .order)) ≡ true
     unfolding named
-    its-contract = known t a _ sound there (found a (fill .number) there)
+    values = sound .resting _ there (found a (fill .number) there) .allowed
+
+    its-contract : f .order .contract < t .n
+    its-contract = contract-known t (asOrder (f .order)) values
 
     -- holds and margin, with as much again as a fill can move, fit
     small : (before one : ℕ) → before ≤ 64 * (10_000 * 20_000_000_000) → one ≤ 20_000_000_000 → before + fill .quantity * one < 2 ^ 64
@@ -138,7 +68,7 @@ module _ (t : Tables) (a : Account) (sound : Sound t a) where
     unfolding named
     held =
         let before = sheet-sound sound .holds in
-        let figures = order-figures (asOrder (f .order)) (resting t a _ sound there (found a (fill .number) there) .allowed) in
+        let figures = order-figures (asOrder (f .order)) values in
         small _ _ (omega (arith, before)) (le-of-lt (one-hold (sound .tables) _ its-contract (kindOf (f .order)) _ (figures .price)))
 
     exact : fillVerdict f fill ≡ Accepted → Exact f fill (kindOf (f .order)) (paid f fill)

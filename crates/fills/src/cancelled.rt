@@ -1,6 +1,4 @@
 // A cancel: 7, or the place is free, the rest of the hold is freed and a buy open's remainder is off the daily count.
-use crate::named::named_at;
-use crate::named::place_of;
 use account::Account;
 use account::Change;
 use account::Decision;
@@ -9,6 +7,8 @@ use account::Named;
 use account::Resting;
 use account::Tables;
 use account::counted;
+use resting::Found;
+use resting::find;
 use terms::Contracts;
 use terms::Refusal;
 ghost use mathlib.Core.Path.{_≡_};
@@ -21,11 +21,10 @@ pub fn cancel(tables: Tables, account: Account, number: u32) -> Decision
     requires { ⌜ Sound tables account ⌝ }
     ensures { λ r. ⌜ r ≡ decided (cancelVerdict (named tables account number)) (cancelChange (named tables account number)) ⌝ }
 {
-    let place = place_of(account, number);
-    if place >= terms::PLACES {
+    let Found::At(named) = find(tables, account, number) else {
         return Decision::Refused(Refusal::NoSuchOrder);
-    }
-    Decision::Changes(change(named_at(tables, account, place)))
+    };
+    Decision::Changes(change(named))
 }
 
 fn change(named: Named) -> Change

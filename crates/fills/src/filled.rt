@@ -2,9 +2,6 @@
 use crate::after::moved;
 use crate::after::order_after;
 use crate::after::sheet_after;
-use crate::named::kind_of;
-use crate::named::named_at;
-use crate::named::place_of;
 use account::Account;
 use account::Change;
 use account::Decision;
@@ -12,6 +9,9 @@ use account::Named;
 use account::Tables;
 use entries::Fill;
 use money::premium_one;
+use resting::Found;
+use resting::find;
+use resting::kind_of;
 use terms::Measure;
 use terms::OrderKind;
 use terms::Refusal;
@@ -29,11 +29,10 @@ pub fn fill(tables: Tables, account: Account, fill: Fill) -> Decision
         & Measure::Price.allows(fill.price as u64)) {
         return Decision::Refused(Refusal::OutOfRange);
     }
-    let place = place_of(account, fill.number);
-    if place >= terms::PLACES {
+    let Found::At(named) = find(tables, account, fill.number) else {
         return Decision::Refused(Refusal::NoSuchOrder);
-    }
-    decide(named_at(tables, account, place), fill)
+    };
+    decide(named, fill)
 }
 
 // The order is there and the fill's values are in their ranges. A sell brings money and may pass the ceiling, a buy pays and may pass cash.

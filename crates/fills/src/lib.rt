@@ -2,7 +2,6 @@
 mod after;
 mod cancelled;
 mod filled;
-mod named;
 
 pub use cancelled::cancel;
 pub use filled::fill;

@@ -1,26 +1,23 @@
--- What a sound account and an order with allowed values give to the facts: its rows are inside the arrays, its sums are totals that the limits bound, and its hold is a small multiple of one contract's.
+-- What a sound account and an order with allowed values give to the facts: its sums are totals that the limits bound, and its hold is a small multiple of one contract's.
 use mathlib.Core.Path.{_≡_, refl}
-use mathlib.Core.Bool.{true, not, _&&_}
+use mathlib.Core.Bool.{true, _&&_}
 use Prim.Native.Nat.{ℕ, _+_, _-_, _*_, _^_, _≤_, _<_}
 use native.Mathlib.Nat.{le-trans, le-of-lt}
 use native.Mathlib.Omega.{arith}
-use lib.Dec.{ltb, eqb}
+use lib.Dec.{eqb}
 use lib.IntN.{ℤ}
 use mir.Syntax.{w64}
 use mir.Val.{Fits}
 use Rattle.terms.specs.Codes.{kindCode}
 use Rattle.terms.specs.Counts.{unitsFor}
 use Rattle.terms.specs.Kinds.{movesOf}
-use Rattle.terms.specs.Ranges.{rangeOf, _∈_}
 use Rattle.terms.specs.declared.count.Units.{Units}
 use Rattle.terms.specs.declared.kind.Side.{Side}
-use Rattle.terms.specs.declared.measure.Measure.the-variants.{Price, Quantity}
 use Rattle.terms.proofs.Product.{product-below}
-use Rattle.terms.proofs.Ranges.{first-holds, second-holds}
 use Rattle.rules.specs.Count.{forCount}
 use Rattle.entries.specs.declared.entry.Order.{Order}
 use Rattle.account.specs.Money.{availableOf, holdOne}
-use Rattle.account.specs.Orders.{coveredPut, factsIn, freePlace, orderAllowed, under}
+use Rattle.account.specs.Orders.{factsIn, freePlace, orderAllowed, under}
 use Rattle.account.specs.Rows.{contract, underlying, position, holding}
 use Rattle.account.specs.Sound.{Sound}
 use Rattle.account.specs.Totals.{countOf, overOrders, rightsIn, spareUnits, totalIn}
@@ -38,21 +35,6 @@ module _ (t : Tables) (a : Account) (o : Order) (sound : Sound t a) (allowed : o
 
   pub listed : (under t o) < t .m
   listed = underlying-known t o allowed (sound .tables)
-
-  pub contract-inside : o .contract < 64
-  contract-inside = let few = sound .tables .fewContracts in omega (arith, there, few)
-
-  pub underlying-inside : (under t o) < 8
-  underlying-inside = let few = sound .tables .fewUnderlyings in omega (arith, listed, few)
-
-  pub priced : (o .price ∈ rangeOf Price) ≡ true
-  unfolding orderAllowed
-  priced =
-      let quantity = o .quantity ∈ rangeOf Quantity in
-      let price = o .price ∈ rangeOf Price in
-      let known = ltb (o .contract) (t .n) in
-      let call = not (coveredPut (movesOf (o .kind)) (contract t (o .contract) .right)) in
-      second-holds quantity price (first-holds (quantity && price) known (first-holds (quantity && price && known) call allowed))
 
   module _ (h : Held) (w : Working) (code : ℕ) (held : h ≡ heldIn t a (under t o)) (working : w ≡ workingIn t a (under t o) (o .contract) code) where
     pub long-most : h .long + w .buys ≤ 10_000

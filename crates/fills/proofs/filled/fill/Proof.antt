@@ -1,24 +1,24 @@
--- `fill` meets its contract: the first two checks are made on the definition's values and place, and a sound account has what the order's fill takes off.
+-- `fill` meets its contract: the first two checks are the definition's, on the fill's values and on what is found, and of that a sound account has what the fill takes off.
 use mathlib.Core.Path.{_≡_, refl, sym, ap, subst, _∙_}
 use mathlib.Core.Bool.{Bool, true, false, not, _&&_}
-use Prim.Native.Nat.{ℕ, _≤_, _<_}
 use borrow.Author.Needs.{needs}
-use borrow.Author.Tests.{not-true, not-false, le-ltb}
+use borrow.Author.Tests.{not-true, not-false}
 use Rattle.terms.specs.Ranges.{rangeOf, _∈_}
 use Rattle.terms.specs.declared.measure.Measure.the-variants.{Price, Quantity}
 use Rattle.terms.specs.declared.refusal.Refusal.the-variants.{OutOfRange, NoSuchOrder}
 use Rattle.terms.proofs.Ranges.{first-holds, second-holds}
 use Rattle.entries.specs.declared.entry.Fill.{Fill}
 use Rattle.account.specs.Changes.{decided}
-use Rattle.account.specs.Fills.{fillChange, fillVerdict, named, namedAt}
-use Rattle.account.specs.Rows.{order}
+use Rattle.account.specs.Fills.{fillChange, fillVerdict, named}
 use Rattle.account.specs.declared.account.Account.{Account}
 use Rattle.account.specs.declared.judged.Decision.{Decision}
 use Rattle.account.specs.declared.judged.Decision.the-variants.{Refused}
 use Rattle.account.specs.declared.judged.Named.{Named}
 use Rattle.account.specs.declared.tables.Tables.{Tables}
+use Rattle.resting.specs.declared.found.Found.the-variants.{At, Nothing}
+use Rattle.resting.proofs.Told as told
 use Rattle.fills.specs.Takes.{Fillable}
-use Rattle.fills.proofs.Behind.{fillable, named-there, rests, within}
+use Rattle.fills.proofs.Behind.{fillable}
 use Rattle.fills.proofs.filled.fill.Statement.{statement}
 use Rattle.fills.proofs.filled.fill.Tie as tie
 
@@ -36,8 +36,8 @@ module _ (fill : Fill) {counted priced : Bool} (counts : counted ≡ (fill .quan
       let both = not-false (counted && priced) passes in
       (sym counts ∙ first-holds counted priced both, sym prices ∙ second-holds counted priced both)
 
--- the function once the place is found
-module _ (p : tie.After-place-of) where
+-- the function once it has looked for the order
+module _ (p : tie.After-find) where
   abbrev start : tie.Start
   start = p .before .before .before .before .before .before
 
@@ -50,22 +50,21 @@ module _ (p : tie.After-place-of) where
   abbrev its : Fill
   its = start .args .fill
 
-  abbrev place : ℕ
-  place = p .place-of .result
-
   ranges : ((its .quantity ∈ rangeOf Quantity) ≡ true) × ((its .price ∈ rangeOf Price) ≡ true)
   ranges = inside its (p .before .before .before .before .allows .ensures) (p .before .before .allows2 .ensures) (p .before .if1 .left)
 
-  none : 32 ≤ place → Refused NoSuchOrder ≡ decision its (named t a (its .number))
+  none : p .find .result ≡ Nothing → Refused NoSuchOrder ≡ decision its (named t a (its .number))
   unfolding fillVerdict named
-  none past = rw (ranges .0, ranges .1, ← p .place-of .ensures, le-ltb place 32 past) refl
+  none e = rw (ranges .0, ranges .1, told.none t a (its .number) (p .find .ensures) e) refl
 
-  module _ {f : Named} (gathered : f ≡ namedAt t a place (order a place)) where
+  module _ {f : Named} (at : p .find .result ≡ At f) where
     is-named : f ≡ named t a (its .number)
-    is-named = named-there t a (its .number) (p .place-of .ensures) gathered
+    is-named = told.is-named t a (its .number) (p .find .ensures) at
 
-    can : place < 32 → Fillable f its
-    can there = subst (λ (f : Named). Fillable f its) (sym is-named) (fillable t a (start .pre) its (within t a (its .number) (p .place-of .ensures) there) (ranges .0) (ranges .1))
+    can : Fillable f its
+    can =
+        subst (λ (f : Named). Fillable f its) (sym is-named)
+        (fillable t a (start .pre) its (told.there t a (its .number) (p .find .ensures) at) (ranges .0) (ranges .1))
 
 pub fill-spec : {M : Type 1} → statement M
 fill-spec =
@@ -79,7 +78,8 @@ fill-spec =
     let args = c .before .before .before .before .before .args in
     out (args .fill) (c .before .before .before .allows .ensures) (c .before .allows2 .ensures) (named (args .tables) (args .account) (args .fill .number)) (c .if1 .taken))
     (λ c κs. search needs)
-    (λ c. none (c .before) (c .if2 .taken))
-    (λ c κs. rests _ _ _ (c .before .place-of .ensures) (start (c .before) .pre) (c .if2 .left))
-    (λ c κs. can (c .before .before) (c .named-at .ensures) (c .before .if2 .left))
-    (λ c. c .decide .ensures ∙ ap (decision _) (is-named (c .before .before .before) (c .before .named-at .ensures))))
+    (λ c. search needs)
+    (λ c. search needs)
+    (λ c. none (c .before .before) (c .enum-told .given .1))
+    (λ c κs. can (c .before .before .before) (c .before .named .given .1))
+    (λ c. c .decide .ensures ∙ ap (decision _) (is-named (c .before .before .before .before) (c .before .before .named .given .1))))

@@ -16,6 +16,7 @@ use Rattle.money.proofs.Charged.{hold-charged}
 use Rattle.totals.specs.Gathered.{heldIn, workingIn}
 use Rattle.totals.specs.declared.held.Held.{Held}
 use Rattle.totals.specs.declared.working.Working.{Working}
+use Rattle.account.proofs.Allowed as allowed
 use Rattle.account.proofs.Bounds.{figures-allowed, sheet-sound}
 use Rattle.gathering.proofs.Known as known
 use Rattle.gathering.proofs.facts.known.Statement.{statement}
@@ -33,15 +34,15 @@ module _ (start : tie.Start) where
   o = start .args .order
 
   contract-inside : o .contract < 64
-  contract-inside = known.contract-inside t a o (start .pre .0) (start .pre .1)
+  contract-inside = allowed.contract-inside t o (start .pre .1) (start .pre .0 .tables)
 
   underlying-inside : under t o < 8
-  underlying-inside = known.underlying-inside t a o (start .pre .0) (start .pre .1)
+  underlying-inside = allowed.underlying-inside t o (start .pre .1) (start .pre .0 .tables)
 
   held-one : (one : ℕ) → one ≡ holdCharged (o .kind) (contract t (o .contract)) (underlying t (under t o)) (o .price) → one ≡ holdOne t (o .kind) (o .contract) (o .price)
   held-one one e =
       let there = known.there t a o (start .pre .0) (start .pre .1) in
-      e ∙ hold-charged (contract t (o .contract)) (underlying t (under t o)) (figures-allowed (start .pre .0 .tables) (o .contract) there) (o .kind) (o .price) (known.priced t a o (start .pre .0) (start .pre .1))
+      e ∙ hold-charged (contract t (o .contract)) (underlying t (under t o)) (figures-allowed (start .pre .0 .tables) (o .contract) there) (o .kind) (o .price) (allowed.priced t o (start .pre .1))
 
   module _ (h : Held) (w : Working) (code : ℕ) (held : h ≡ heldIn t a (under t o)) (working : w ≡ workingIn t a (under t o) (o .contract) code) where
     long-most : h .long + w .buys ≤ 10_000

@@ -2,8 +2,8 @@
 use mathlib.Core.Path.{sym, ap, _∙_}
 use borrow.Author.Needs.{needs}
 use Rattle.account.specs.Money.{answered}
-use Rattle.fills.proofs.named.kind_of.Statement.{statement}
-use Rattle.fills.proofs.named.kind_of.Tie as tie
+use Rattle.resting.proofs.named.kind_of.Statement.{statement}
+use Rattle.resting.proofs.named.kind_of.Tie as tie
 
 pub kind-of-spec : {M : Type 1} → statement M
 kind-of-spec =

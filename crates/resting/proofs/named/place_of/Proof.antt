@@ -9,8 +9,8 @@ use Rattle.account.specs.Rows.{order}
 use Rattle.account.specs.Sums.{lowest}
 use Rattle.account.specs.declared.account.Account.{Account}
 use Rattle.account.proofs.Lowest.{lowest-start, lowest-here, lowest-on, lowest-end}
-use Rattle.fills.proofs.named.place_of.Statement.{statement}
-use Rattle.fills.proofs.named.place_of.Tie as tie
+use Rattle.resting.proofs.named.place_of.Statement.{statement}
+use Rattle.resting.proofs.named.place_of.Tie as tie
 
 abbrev has : Account → ℕ → ℕ → Bool
 has a number i = eqb (order a i .number) number && not (eqb number 0)

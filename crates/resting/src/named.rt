@@ -1,4 +1,4 @@
-// The resting order that a number names, and what it is judged by.
+// The place of the order that has a number, and what the order at a place is judged by.
 use account::Account;
 use account::Named;
 use account::Resting;
@@ -55,7 +55,7 @@ pub(crate) fn named_at(tables: Tables, account: Account, place: usize) -> Named
     }
 }
 
-pub(crate) fn kind_of(order: Resting) -> OrderKind
+pub fn kind_of(order: Resting) -> OrderKind
     ensures { λ r. ⌜ r ≡ kindOf order ⌝ }
 {
     match OrderKind::coded(order.kind) {

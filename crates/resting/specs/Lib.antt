@@ -1,0 +1,2 @@
+-- What a number finds; the rules are in `account`.
+pub mod Found
