@@ -14,6 +14,7 @@ use Rattle.transfers.proofs.withdraw.Reads as withdraw
 use Rattle.transfers.proofs.lock.Reads as lock
 use Rattle.transfers.proofs.unlock.Reads as unlock
 use Rattle.orders.proofs.order.Reads as order
+use Rattle.resting.proofs.find.Reads as find
 use Rattle.fills.proofs.fill.Reads as fill
 use Rattle.fills.proofs.cancel.Reads as cancel
 use Rattle.day_end.proofs.day_end.Reads as day-end
@@ -54,6 +55,9 @@ unlock-one κs a r r' s s' p q = p ∙ sym q
 
 pub order-one : (κs : _) (a : _) (r r' : _) (s s' : _) → order.Post κs a r s → order.Post κs a r' s' → r ≡ r'
 order-one κs a r r' s s' p q = p ∙ sym q
+
+pub find-one : (κs : _) (a : _) (r r' : _) (s s' : _) → find.Post κs a r s → find.Post κs a r' s' → r ≡ r'
+find-one κs a r r' s s' p q = p ∙ sym q
 
 pub fill-one : (κs : _) (a : _) (r r' : _) (s s' : _) → fill.Post κs a r s → fill.Post κs a r' s' → r ≡ r'
 fill-one κs a r r' s s' p q = p ∙ sym q
