@@ -1,23 +1,36 @@
-//! The stored answers of `cases` come out of `plain` too; lines of `edges` by hand; and random lines reach every refusal.
+//! The stored answers of `cases` and `edges` come out of `plain` too; lines of `edges` by hand; and random lines reach every refusal.
 
 use std::collections::BTreeSet;
 use trials::answered;
 use trials::edges::Edges;
 use trials::making::Maker;
 
-fn stored(name: &str) -> String {
-    let path = format!("{}/../../crates/cases/{name}", env!("CARGO_MANIFEST_DIR"));
-    std::fs::read_to_string(path).expect("the stored examples")
+/// A program reads no more than this, and the lines behind it would go unasked.
+const MOST_READ: usize = 65_536;
+
+fn stored(program: &str, name: &str) -> String {
+    let crates = concat!(env!("CARGO_MANIFEST_DIR"), "/../../crates");
+    std::fs::read_to_string(format!("{crates}/{program}/{name}")).expect("the stored examples")
 }
 
-#[test]
-fn stored_cases() {
+fn answers_are_those_stored(program: &str) {
     let mut edges = Edges::new();
-    let (asked, expected) = (stored("stdin"), stored("stdout"));
+    let (asked, expected) = (stored(program, "stdin"), stored(program, "stdout"));
+    assert!(asked.len() <= MOST_READ);
     assert_eq!(asked.lines().count(), expected.lines().count());
     for (line, expected) in asked.lines().zip(expected.lines()) {
         assert_eq!(answered(&mut edges, line), expected);
     }
+}
+
+#[test]
+fn stored_cases() {
+    answers_are_those_stored("cases");
+}
+
+#[test]
+fn stored_edges() {
+    answers_are_those_stored("edges");
 }
 
 #[test]
