@@ -1,8 +1,8 @@
 -- `few` meets its contract: the ranges of each row compute.
 use mathlib.Core.Path.{refl}
 use borrow.Author.Needs.{needs}
-use Rattle.edges.proofs.fixed.few.Statement.{statement}
-use Rattle.edges.proofs.fixed.few.Tie as tie
+use Rattle.fixed.proofs.few.Statement.{statement}
+use Rattle.fixed.proofs.few.Tie as tie
 
 pub few-spec : {M : Type 1} → statement M
 few-spec =

@@ -6,9 +6,9 @@ use borrow.Author.Needs.{needs}
 use Rattle.entries.specs.declared.entry.Contract.{Contract}
 use Rattle.account.specs.Sound.{contractAllowed}
 use Rattle.account.proofs.Listed.{each-passes}
-use Rattle.edges.specs.Fixed.{count, inTurn}
-use Rattle.edges.proofs.fixed.contract_of.Statement.{statement}
-use Rattle.edges.proofs.fixed.contract_of.Tie as tie
+use Rattle.fixed.specs.Rows.{count, inTurn}
+use Rattle.fixed.proofs.contract_of.Statement.{statement}
+use Rattle.fixed.proofs.contract_of.Tie as tie
 
 all-allowed : (c : ℕ) → c < 64 → contractAllowed 8 (inTurn c) ≡ true
 all-allowed = each-passes 64 (λ c. contractAllowed 8 (inTurn c)) refl

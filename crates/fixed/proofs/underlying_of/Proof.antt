@@ -1,8 +1,8 @@
 -- `underlying_of` meets its contract: the ranges of each row compute.
 use mathlib.Core.Path.{refl}
 use borrow.Author.Needs.{needs}
-use Rattle.edges.proofs.fixed.underlying_of.Statement.{statement}
-use Rattle.edges.proofs.fixed.underlying_of.Tie as tie
+use Rattle.fixed.proofs.underlying_of.Statement.{statement}
+use Rattle.fixed.proofs.underlying_of.Tie as tie
 
 pub underlying-of-spec : {M : Type 1} → statement M
 underlying-of-spec =

@@ -3,8 +3,8 @@ use mathlib.Core.Path.{ap, _∙_}
 use Prim.Native.Nat.{_+_, _*_, _%_}
 use borrow.Author.Needs.{needs}
 use Rattle.terms.specs.declared.right.Right.{Right}
-use Rattle.edges.proofs.fixed.in_turn.Statement.{statement}
-use Rattle.edges.proofs.fixed.in_turn.Tie as tie
+use Rattle.fixed.proofs.in_turn.Statement.{statement}
+use Rattle.fixed.proofs.in_turn.Tie as tie
 
 pub in-turn-spec : {M : Type 1} → statement M
 in-turn-spec =

@@ -4,8 +4,8 @@ use mathlib.Core.Bool.{Bool, cond}
 use borrow.Author.Needs.{needs}
 use borrow.Author.Tests.{lt-ltb, le-ltb}
 use Rattle.terms.specs.declared.right.Right.the-variants.{Call, Put}
-use Rattle.edges.proofs.fixed.right.Statement.{statement}
-use Rattle.edges.proofs.fixed.right.Tie as tie
+use Rattle.fixed.proofs.right.Statement.{statement}
+use Rattle.fixed.proofs.right.Tie as tie
 
 pub right-spec : {M : Type 1} → statement M
 right-spec =

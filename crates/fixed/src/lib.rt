@@ -1,34 +1,33 @@
-// The two tables that entries are booked on here: small ones, and full ones with every row taken.
+// The two tables that `edges` books on: small ones, and full ones with every row taken.
 use account::Tables;
 use entries::Contract;
 use entries::Underlying;
 use terms::Class;
 use terms::Right;
 ghost use mathlib.Core.Path.{_≡_};
-ghost use mathlib.Core.Bool.{true};
+ghost use mathlib.Core.Bool.{cond, true};
 ghost use Prim.Native.Nat.{_≤_, _<_};
 ghost use Rattle.account.specs.Rows.{noContract, noUnderlying};
 ghost use Rattle.account.specs.Sound.{SoundTables, contractAllowed, underlyingAllowed};
-ghost use Rattle.edges.specs.Fixed.{Filled, count, inTurn, rightOf};
+ghost use Rattle.fixed.specs.Rows.{Filled, count, inTurn, rightOf};
 
 pub fn tables(full: bool) -> Tables
     ensures { λ r. ⌜ SoundTables r ⌝ }
 {
-    if full {
-        Tables {
-            underlyings: underlyings(true, terms::UNDERLYINGS),
-            m: terms::UNDERLYINGS,
-            contracts: contracts(true, terms::CONTRACTS),
-            n: terms::CONTRACTS,
-        }
-    } else {
-        Tables {
-            underlyings: underlyings(false, 3),
-            m: 3,
-            contracts: contracts(false, 5),
-            n: 5,
-        }
+    let m = rows(full, 3, terms::UNDERLYINGS);
+    let n = rows(full, 5, terms::CONTRACTS);
+    Tables {
+        underlyings: underlyings(full, m),
+        m,
+        contracts: contracts(full, n),
+        n,
     }
+}
+
+fn rows(full: bool, few: usize, all: usize) -> usize
+    ensures { λ r. ⌜ r ≡ cond full all few ⌝ }
+{
+    if full { all } else { few }
 }
 
 fn underlyings(full: bool, m: usize) -> [Underlying; terms::UNDERLYINGS]

@@ -6,10 +6,10 @@ use native.Mathlib.Omega.{arith}
 use borrow.Author.Needs.{needs}
 use Rattle.account.specs.Rows.{noContract}
 use Rattle.account.specs.Sound.{contractAllowed}
-use Rattle.edges.specs.Fixed.{Filled, count}
-use Rattle.edges.proofs.Filling.{nothing-yet, one-more, whole}
-use Rattle.edges.proofs.fixed.contracts.Statement.{statement}
-use Rattle.edges.proofs.fixed.contracts.Tie as tie
+use Rattle.fixed.specs.Rows.{Filled, count}
+use Rattle.fixed.proofs.Filling.{nothing-yet, one-more, whole}
+use Rattle.fixed.proofs.contracts.Statement.{statement}
+use Rattle.fixed.proofs.contracts.Tie as tie
 
 abbrev Inv-loop : tie.InvT-loop
 Inv-loop full n rows₀ c₀ rows c = (c ≤ n) × Filled 64 noContract (λ k. contractAllowed (count full) k ≡ true) rows c

@@ -6,10 +6,10 @@ use native.Mathlib.Omega.{arith}
 use borrow.Author.Needs.{needs}
 use Rattle.account.specs.Rows.{noUnderlying}
 use Rattle.account.specs.Sound.{underlyingAllowed}
-use Rattle.edges.specs.Fixed.{Filled}
-use Rattle.edges.proofs.Filling.{nothing-yet, one-more, whole}
-use Rattle.edges.proofs.fixed.underlyings.Statement.{statement}
-use Rattle.edges.proofs.fixed.underlyings.Tie as tie
+use Rattle.fixed.specs.Rows.{Filled}
+use Rattle.fixed.proofs.Filling.{nothing-yet, one-more, whole}
+use Rattle.fixed.proofs.underlyings.Statement.{statement}
+use Rattle.fixed.proofs.underlyings.Tie as tie
 
 abbrev Inv-loop : tie.InvT-loop
 Inv-loop full m rows₀ u₀ rows u = (u ≤ m) × Filled 8 noUnderlying (λ p. underlyingAllowed p ≡ true) rows u

@@ -6,7 +6,7 @@ use native.Mathlib.Decide.{decLt}
 use native.Mathlib.Omega.{arith}
 use lib.ListN.{getD, length, length-set, set}
 use lib.Seq.{getD-set-same, getD-set-other}
-use Rattle.edges.specs.Fixed.{Filled}
+use Rattle.fixed.specs.Rows.{Filled}
 
 module _ {A : Type 0} (size : ℕ) (none : A) (P : A → Type 0) (rows : List A) where
   pub nothing-yet : length rows ≡ size → Filled size none P rows 0

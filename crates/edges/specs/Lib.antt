@@ -1,2 +1,0 @@
--- The rows of the two tables.
-pub mod Fixed

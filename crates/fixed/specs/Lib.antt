@@ -1,0 +1,2 @@
+-- What the rows of the two tables satisfy.
+pub mod Rows
