@@ -1,5 +1,8 @@
 # The second working: its own tests, which hold it to the stored answers of `cases` and `edges` too.
 set -eu
 cd "$(dirname "$0")/.."
-sh tests/cargo.sh test
+said=$(sh tests/cargo.sh test 2>&1) || {
+    printf '%s\n' "$said"
+    exit 1
+}
 echo "the examples' answers are document 01's"

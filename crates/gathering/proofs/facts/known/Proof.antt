@@ -13,7 +13,6 @@ use Rattle.account.specs.declared.account.Account.{Account}
 use Rattle.account.specs.declared.tables.Tables.{Tables}
 use Rattle.money.specs.Charged.{holdCharged}
 use Rattle.money.proofs.Charged.{hold-charged}
-use Rattle.totals.specs.Gathered.{heldIn, workingIn}
 use Rattle.totals.specs.declared.held.Held.{Held}
 use Rattle.totals.specs.declared.working.Working.{Working}
 use Rattle.account.proofs.Allowed as allowed
@@ -44,18 +43,28 @@ module _ (start : tie.Start) where
       let there = known.there t a o (start .pre .0) (start .pre .1) in
       e ∙ hold-charged (contract t (o .contract)) (underlying t (under t o)) (figures-allowed (start .pre .0 .tables) (o .contract) there) (o .kind) (o .price) (allowed.priced t o (start .pre .1))
 
-  module _ (h : Held) (w : Working) (code : ℕ) (held : h ≡ heldIn t a (under t o)) (working : w ≡ workingIn t a (under t o) (o .contract) code) where
-    long-most : h .long + w .buys ≤ 10_000
-    long-most = known.long-most t a o (start .pre .0) (start .pre .1) h w code held working
+-- what both sums come back with
+module _ (c : tie.After-working-in) where
+  abbrev asked : tie.Start
+  asked = c .before .before .before .before .before .before .before .before
 
-    all-most : h .long + h .short + h .covered + w .opens ≤ 10_000
-    all-most = known.all-most t a o (start .pre .0) (start .pre .1) h w code held working
+  abbrev held : Held
+  held = c .before .before .held-in .result
 
-    same-most : w .same ≤ 3_200
-    same-most = known.same-most t a o (start .pre .0) (start .pre .1) h w code held working
+  abbrev working : Working
+  working = c .working-in .result
 
-    units-within : h .units + w .reserved ≤ holding a (under t o) .locked .0
-    units-within = known.units-within t a o (start .pre .0) (start .pre .1) h w code held working
+  long-most : held .long + working .buys ≤ 10_000
+  long-most = known.long-most (t asked) (a asked) (o asked) (asked .pre .0) (asked .pre .1) _ _ _ (c .before .before .held-in .ensures) (c .working-in .ensures)
+
+  all-most : held .long + held .short + held .covered + working .opens ≤ 10_000
+  all-most = known.all-most (t asked) (a asked) (o asked) (asked .pre .0) (asked .pre .1) _ _ _ (c .before .before .held-in .ensures) (c .working-in .ensures)
+
+  same-most : working .same ≤ 3_200
+  same-most = known.same-most (t asked) (a asked) (o asked) (asked .pre .0) (asked .pre .1) _ _ _ (c .before .before .held-in .ensures) (c .working-in .ensures)
+
+  units-within : held .units + working .reserved ≤ holding (a asked) (under (t asked) (o asked)) .locked .0
+  units-within = known.units-within (t asked) (a asked) (o asked) (asked .pre .0) (asked .pre .1) _ _ _ (c .before .before .held-in .ensures) (c .working-in .ensures)
 
 pub known-spec : {M : Type 1} → statement M
 known-spec =
@@ -77,31 +86,36 @@ known-spec =
     (λ c κs. search needs)
     (λ c κs. search needs)
     (λ c κs. search needs)
-    (λ c. let most = same-most (c .before .before .before .before .before .before .before .before .before .before .before .before .before .before) _ _ _ (c .before .before .before .before .before .before .before .before .held-in .ensures) (c .before .before .before .before .before .before .working-in .ensures) in record { fits = omega (arith, most) })
-    (λ c. let most = long-most (c .before .before .before .before .before .before .before .before .before .before .before .before .before .before .before .before) _ _ _ (c .before .before .before .before .before .before .before .before .before .before .held-in .ensures) (c .before .before .before .before .before .before .before .before .working-in .ensures) in record { fits = omega (arith, most) })
-    (λ c. let most = long-most (c .before .before .before .before .before .before .before .before .before .before .before .before .before .before .before .before) _ _ _ (c .before .before .before .before .before .before .before .before .before .before .held-in .ensures) (c .before .before .before .before .before .before .before .before .working-in .ensures) in record { fits = omega (arith, most) })
-    (λ c. let most = all-most (c .before .before .before .before .before .before .before .before .before .before .before .before .before .before .before .before .before) _ _ _ (c .before .before .before .before .before .before .before .before .before .before .before .held-in .ensures) (c .before .before .before .before .before .before .before .before .before .working-in .ensures) in record { fits = omega (arith, most) })
-    (λ c. let most = all-most (c .before .before .before .before .before .before .before .before .before .before .before .before .before .before .before .before .before .before) _ _ _ (c .before .before .before .before .before .before .before .before .before .before .before .before .held-in .ensures) (c .before .before .before .before .before .before .before .before .before .before .working-in .ensures) in record { fits = omega (arith, most) })
-    (λ c. let most = all-most (c .before .before .before .before .before .before .before .before .before .before .before .before .before .before .before .before .before .before .before) _ _ _ (c .before .before .before .before .before .before .before .before .before .before .before .before .before .held-in .ensures) (c .before .before .before .before .before .before .before .before .before .before .before .working-in .ensures) in record { fits = omega (arith, most) })
-    (λ c. let most = all-most (c .before .before .before .before .before .before .before .before .before .before .before .before .before .before .before .before .before .before .before) _ _ _ (c .before .before .before .before .before .before .before .before .before .before .before .before .before .held-in .ensures) (c .before .before .before .before .before .before .before .before .before .before .before .working-in .ensures) in record { fits = omega (arith, most) })
-    (λ c. let within = units-within (c .before .before .before .before .before .before .before .before .before .before .before .before .before .before .before .before .before .before .before .before .before) _ _ _ (c .before .before .before .before .before .before .before .before .before .before .before .before .before .before .before .held-in .ensures) (c .before .before .before .before .before .before .before .before .before .before .before .before .before .working-in .ensures) in omega (arith, within))
-    (λ c. let within = units-within (c .before .before .before .before .before .before .before .before .before .before .before .before .before .before .before .before .before .before .before .before .before .before) _ _ _ (c .before .before .before .before .before .before .before .before .before .before .before .before .before .before .before .before .held-in .ensures) (c .before .before .before .before .before .before .before .before .before .before .before .before .before .before .working-in .ensures) in omega (arith, within))
+    (λ c. let most = same-most (c .before .before .before .before .before .before) in record { fits = omega (arith, most) })
+    (λ c. let most = long-most (c .before .before .before .before .before .before .before .before) in record { fits = omega (arith, most) })
+    (λ c. let most = long-most (c .before .before .before .before .before .before .before .before) in record { fits = omega (arith, most) })
+    (λ c. let most = all-most (c .before .before .before .before .before .before .before .before .before) in record { fits = omega (arith, most) })
+    (λ c. let most = all-most (c .before .before .before .before .before .before .before .before .before .before) in record { fits = omega (arith, most) })
+    (λ c. let most = all-most (c .before .before .before .before .before .before .before .before .before .before .before) in record { fits = omega (arith, most) })
+    (λ c. let most = all-most (c .before .before .before .before .before .before .before .before .before .before .before) in record { fits = omega (arith, most) })
+    (λ c. let within = units-within (c .before .before .before .before .before .before .before .before .before .before .before .before .before) in omega (arith, within))
+    (λ c. let within = units-within (c .before .before .before .before .before .before .before .before .before .before .before .before .before .before) in omega (arith, within))
     (λ c κs. search needs)
-    (λ c κs. sheet-sound (c .before .before .before .before .before .before .before .before .before .before .before .before .before .before .before .before .before .before .before .before .before .before .before .pre .0))
+    (λ c κs. sheet-sound (asked (c .before .before .before .before .before .before .before .before .before .before .before .before .before .before .before) .pre .0))
     (λ c. search needs)
     (λ c κs. search needs)
     (λ c.
-    let start = c .before .before .before .before .before .before .before .before .before .before .before .before .before .before .before .before .before .before .before .before .before .before .before .before .before .before in
+    let start = asked (c .before .before .before .before .before .before .before .before .before .before .before .before .before .before .before .before .before .before) in
     known.hold-fits (t start) (a start) (o start) (start .pre .0) (start .pre .1) _ (held-one start _ (c .hold-one .ensures)))
     (λ c.
-    let start = c .before .before .before .before .before .before .before .before .before .before .before .before .before .before .before .before .before .before .before .before .before .before .before .before .before .before in
+    let available = c .before .before in
+    let units = available .before in
+    let count = units .before .before .before .before .before .before .before .before .before .before in
+    let place = count .before .before in
+    let sums = place .before .before .before in
+    let start = asked sums in
     known.put-together (t start) (a start) (o start) (start .pre .0) (start .pre .1) _ _ _ _ _ _ _ _ _
-    (c .before .before .before .before .before .before .before .before .before .before .before .before .before .before .before .before .before .before .before .before .held-in .ensures)
-    (c .before .before .before .before .before .before .before .before .before .before .before .before .before .before .before .before .before .before .working-in .ensures)
-    (c .before .before .before .before .before .before .before .before .before .before .before .before .before .before .before .before .before .before .before .code .ensures)
-    (c .before .before .before .before .before .before .before .before .before .before .before .before .before .before .before .free-place .ensures)
-    (c .before .before .before .before .before .before .before .before .before .before .before .before .before .count .ensures)
-    (c .before .before .before .before .before .before .before .before .before .before .before .before .before .before .moves .ensures)
-    (c .before .before .before .units .ensures)
-    (toZ-ofZ w64 (c .before .before .available .result) (record { sfits = c .before .before .available .ok }) ∙ c .before .before .available .ensures)
+    (sums .before .before .held-in .ensures)
+    (sums .working-in .ensures)
+    (sums .before .code .ensures)
+    (place .free-place .ensures)
+    (count .count .ensures)
+    (count .before .moves .ensures)
+    (units .units .ensures)
+    (toZ-ofZ w64 (available .available .result) (record { sfits = available .available .ok }) ∙ available .available .ensures)
     (held-one start _ (c .hold-one .ensures))))
