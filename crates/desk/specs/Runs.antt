@@ -1,0 +1,92 @@
+-- A run over the bytes of a list or a book: a refusal number or 0, and available, for each record, one after the other (Records; Figures to meet).
+use Prim.Native.Nat.{ℕ, zero, suc, _+_, min}
+use mathlib.Core.Bool.{true, false, cond}
+use mathlib.Core.List.{List, [], _∷_, _++_, map}
+use lib.Dec.{ltb}
+use lib.IntN.{ℤ, pos}
+use lib.ListN.{length, drop}
+use Rattle.terms.specs.Refusals.{numberOf}
+use Rattle.entries.specs.declared.entry.Figures.{Figures}
+use Rattle.reading.specs.Reading.{readAt}
+use Rattle.reading.specs.declared.Answer.{Answer}
+use Rattle.reading.specs.declared.Answer.the-variants as Answer·of
+use Rattle.reading.specs.declared.Reading.{Reading}
+use Rattle.account.specs.Money.{availableOf}
+use Rattle.account.specs.Verdicts.{numberIn}
+use Rattle.account.specs.declared.account.Sheet.{Sheet}
+use Rattle.account.specs.declared.judged.Verdict.{Verdict}
+use Rattle.account.specs.declared.judged.Verdict.the-variants.{Accepted, Refused}
+use Rattle.account.specs.declared.tables.Tables.{Tables}
+use Rattle.set_up.specs.Given.{listVerdict}
+use Rattle.set_up.specs.Stages.{entered, newBook, opened, waiting}
+use Rattle.set_up.specs.declared.stages.Book.{Book}
+use Rattle.set_up.specs.declared.stages.Stage.{Stage}
+use Rattle.set_up.specs.declared.stages.Stage.the-variants.{Underlyings, Contracts, Entries}
+use Rattle.desk.specs.declared.Run.{Run}
+use Rattle.desk.specs.declared.answer.Answered.{Answered}
+
+-- "available (0 before the opening)" (Figures to meet)
+abbrev pub availableAt : Stage → Sheet → ℤ
+availableAt Underlyings sheet = pos 0
+availableAt Contracts sheet = pos 0
+availableAt Entries sheet = availableOf sheet
+
+abbrev pub availableIn : Book → ℤ
+availableIn b = availableAt (b .stage) (b .account .sheet)
+
+-- what the record that was read leads to: an entry is entered; "refusals 1 to 3 end the reading of a book" (Refusal numbers)
+abbrev pub answerBy : Book → Figures → Answer → Answered
+answerBy b f (Answer·of.Found entry len) =
+    let after = entered b entry f in
+    record { number = numberIn (after .verdict); available = availableIn (after .book); ends = false; length = len; book = after .book }
+answerBy b f (Answer·of.Refused why place) = record { number = numberOf why; available = availableIn b; ends = true; length = 0; book = b }
+
+unfoldable pub answerTo : Book → Reading → Answered
+answerTo b reading = answerBy b (reading .figures) (reading .answer)
+
+-- a run: the answers, the place of the next record, and the book as it then is (house)
+pub record Ran : Type 0 where
+  pub answers : List (ℕ × ℤ)
+  pub place : ℕ
+  pub book : Book
+
+abbrev pub ended : ℕ → Book → Ran
+ended place b = record { answers = []; place = place; book = b }
+
+-- an answer before those of the rest (house)
+abbrev pub _before_ : Answered → Ran → Ran
+answer before rest = record { answers = (answer .number, answer .available) ∷ rest .answers; place = rest .place; book = rest .book }
+
+-- from a place of the bytes on: "it stops after 1, 2 or 3, or when no byte is left", or when no place is left for an answer (Figures to meet; house)
+unfoldable pub runFrom : ℕ → List ℕ → ℕ → Book → Ran
+runFrom zero s place b = ended place b
+runFrom (suc places) s place b =
+    let answer = answerTo b (readAt s place) in
+    cond (ltb place (length s))
+    (answer before cond (answer .ends) (ended place (answer .book)) (runFrom places s (place + answer .length) (answer .book)))
+    (ended place b)
+
+-- as many records are answered as both slices have places for (house)
+abbrev pub placesIn : List ℕ → List ℤ → ℕ
+placesIn numbers sums = min (length numbers) (length sums)
+
+-- a book, and a list on its tables and opening cash; where these are refused nothing is run (Records; house)
+abbrev pub bookRun : ℕ → List ℕ → Ran
+bookRun places s = runFrom places s 0 newBook
+
+abbrev pub listBy : Verdict → Tables → ℕ → ℕ → List ℕ → Ran
+listBy Accepted t cash places s = runFrom places s 0 (opened t cash)
+listBy (Refused why) t cash places s = ended 0 (waiting t)
+
+abbrev pub listRun : Tables → ℕ → ℕ → List ℕ → Ran
+listRun t cash = listBy (listVerdict t cash) t cash
+
+-- what the caller is told, and what the lent slices hold afterwards: the answers from the first place on, behind them what was there (house)
+abbrev pub told : Verdict → Ran → Run
+told v r = record { verdict = v; answered = length (r .answers); place = r .place; book = r .book }
+
+abbrev pub numbersLeft : Ran → List ℕ → List ℕ
+numbersLeft r numbers = map (λ answer. answer .0) (r .answers) ++ drop (length (r .answers)) numbers
+
+abbrev pub sumsLeft : Ran → List ℤ → List ℤ
+sumsLeft r sums = map (λ answer. answer .1) (r .answers) ++ drop (length (r .answers)) sums

@@ -1,0 +1,84 @@
+// The answer to one record of a run.
+use account::Sheet;
+use account::Verdict;
+use entries::Figures;
+use money::available;
+use reading::Answer;
+use reading::Reading;
+use set_up::Book;
+use set_up::Stage;
+use set_up::enter;
+use terms::Refusal;
+ghost use mathlib.Core.Path.{_≡_};
+ghost use Rattle.account.specs.Sound.{SoundSheet};
+ghost use Rattle.account.specs.Verdicts.{numberIn};
+ghost use Rattle.set_up.specs.Sound.{SoundBook};
+ghost use Rattle.desk.specs.Runs.{answerTo, availableAt};
+
+// The refusal number or 0, and available; the book after the record. A record that could not be read has no length, and the run ends
+// with it.
+pub struct Answered {
+    pub number: u8,
+    pub available: i64,
+    pub ends: bool,
+    pub length: usize,
+    pub book: Book,
+}
+
+pub(crate) fn answered(before: Book, reading: Reading) -> Answered
+    requires { ⌜ SoundBook before ⌝ }
+    ensures { λ r. ⌜ r ≡ answerTo before reading ⌝ }
+{
+    let answer = reading.answer;
+    let figures = reading.figures;
+    match answer {
+        Answer::Found { entry, length } => {
+            let entered = enter(before, entry, figures);
+            let verdict = entered.verdict;
+            let book = entered.book;
+            let stage = book.stage;
+            let account = book.account;
+            let sheet = account.sheet;
+            Answered {
+                number: number(verdict),
+                available: available_at(stage, sheet),
+                ends: false,
+                length,
+                book,
+            }
+        }
+        Answer::Refused { why, place: _ } => {
+            let stage = before.stage;
+            let account = before.account;
+            let sheet = account.sheet;
+            Answered {
+                number: why.number(),
+                available: available_at(stage, sheet),
+                ends: true,
+                length: 0,
+                book: before,
+            }
+        }
+    }
+}
+
+fn number(verdict: Verdict) -> u8
+    ensures { λ r. ⌜ r ≡ numberIn verdict ⌝ }
+{
+    match verdict {
+        Verdict::Accepted => 0,
+        Verdict::Refused(why) => why.number(),
+    }
+}
+
+// 0 before the opening.
+fn available_at(stage: Stage, sheet: Sheet) -> i64
+    requires { ⌜ (stage ≡ Stage.Entries → SoundSheet sheet) ⌝ }
+    ensures { λ r. ⌜ r ≡ availableAt stage sheet ⌝ }
+{
+    match stage {
+        Stage::Underlyings => 0,
+        Stage::Contracts => 0,
+        Stage::Entries => available(sheet),
+    }
+}

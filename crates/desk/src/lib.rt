@@ -1,0 +1,93 @@
+// The desk: a list and a book, run from their bytes, the answers written into places that the caller lends.
+mod answer;
+
+use account::Account;
+use account::Tables;
+use account::Verdict;
+use answer::answered;
+use reading::read;
+use set_up::Book;
+use set_up::Stage;
+use set_up::list_verdict;
+ghost use mathlib.Core.Path.{_≡_};
+ghost use Rattle.set_up.specs.Sound.{SoundBook};
+ghost use Rattle.set_up.specs.Given.{listVerdict};
+ghost use Rattle.desk.specs.Runs.{bookRun, listRun, numbersLeft, placesIn, runFrom, sumsLeft, told};
+
+// What a run leads to. The verdict is that on what it starts from: a list's tables or cash may be refused, and then no record is
+// answered. `place` is that of the next record, or of the one that could not be read.
+pub struct Run {
+    pub verdict: Verdict,
+    pub answered: usize,
+    pub place: usize,
+    pub book: Book,
+}
+
+// A list, on its tables and its opening cash.
+pub fn run_list(
+    tables: Tables,
+    cash: u64,
+    bytes: &[u8],
+    numbers: &mut [u8],
+    sums: &mut [i64],
+) -> Run
+    ensures run { λ r. ⌜ r ≡ told (listVerdict tables cash) (listRun tables cash (placesIn (now (numbers .entry)) (now (sums .entry))) (now (bytes .entry))) ⌝ }
+    ensures numbers { λ r. ⌜ now (numbers .exit) ≡ numbersLeft (listRun tables cash (placesIn (now (numbers .entry)) (now (sums .entry))) (now (bytes .entry))) (now (numbers .entry)) ⌝ }
+    ensures sums { λ r. ⌜ now (sums .exit) ≡ sumsLeft (listRun tables cash (placesIn (now (numbers .entry)) (now (sums .entry))) (now (bytes .entry))) (now (sums .entry)) ⌝ }
+{
+    let verdict = list_verdict(tables, cash);
+    match verdict {
+        Verdict::Accepted => run(Book::opened(tables, cash), bytes, numbers, sums),
+        Verdict::Refused(_) => Run {
+            verdict,
+            answered: 0,
+            place: 0,
+            book: Book::waiting(tables),
+        },
+    }
+}
+
+// A book, from its first record on.
+pub fn run_book(bytes: &[u8], numbers: &mut [u8], sums: &mut [i64]) -> Run
+    ensures run { λ r. ⌜ r ≡ told Verdict.Accepted (bookRun (placesIn (now (numbers .entry)) (now (sums .entry))) (now (bytes .entry))) ⌝ }
+    ensures numbers { λ r. ⌜ now (numbers .exit) ≡ numbersLeft (bookRun (placesIn (now (numbers .entry)) (now (sums .entry))) (now (bytes .entry))) (now (numbers .entry)) ⌝ }
+    ensures sums { λ r. ⌜ now (sums .exit) ≡ sumsLeft (bookRun (placesIn (now (numbers .entry)) (now (sums .entry))) (now (bytes .entry))) (now (sums .entry)) ⌝ }
+{
+    run(Book::new(), bytes, numbers, sums)
+}
+
+// Record after record, as long as both slices have a place for its answer.
+fn run(start: Book, bytes: &[u8], numbers: &mut [u8], sums: &mut [i64]) -> Run
+    requires { ⌜ SoundBook start ⌝ }
+    ensures run { λ r. ⌜ r ≡ told Verdict.Accepted (runFrom (placesIn (now (numbers .entry)) (now (sums .entry))) (now (bytes .entry)) 0 start) ⌝ }
+    ensures numbers { λ r. ⌜ now (numbers .exit) ≡ numbersLeft (runFrom (placesIn (now (numbers .entry)) (now (sums .entry))) (now (bytes .entry)) 0 start) (now (numbers .entry)) ⌝ }
+    ensures sums { λ r. ⌜ now (sums .exit) ≡ sumsLeft (runFrom (placesIn (now (numbers .entry)) (now (sums .entry))) (now (bytes .entry)) 0 start) (now (sums .entry)) ⌝ }
+{
+    let mut book = start;
+    let mut place = 0;
+    let mut k = 0;
+    while (k < numbers.len()) & (k < sums.len()) & (place < bytes.len()) {
+        let answer = answered(book, read(bytes, place));
+        let sum = answer.available;
+        numbers[k] = answer.number;
+        sums[k] = sum;
+        k += 1;
+        let after = answer.book;
+        book = after;
+        if answer.ends {
+            return Run {
+                verdict: Verdict::Accepted,
+                answered: k,
+                place,
+                book,
+            };
+        }
+        place += answer.length;
+    }
+    Run {
+        verdict: Verdict::Accepted,
+        answered: k,
+        place,
+        book,
+    }
+}
