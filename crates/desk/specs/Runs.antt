@@ -53,6 +53,7 @@ pub record Ran : Type 0 where
 abbrev pub ended : ℕ → Book → Ran
 ended place b = record { answers = []; place = place; book = b }
 
+infixr 5 _before_
 -- an answer before those of the rest (house)
 abbrev pub _before_ : Answered → Ran → Ran
 answer before rest = record { answers = (answer .number, answer .available) ∷ rest .answers; place = rest .place; book = rest .book }

@@ -1,14 +1,12 @@
 // The answer to one record of a run.
 use account::Sheet;
 use account::Verdict;
-use entries::Figures;
 use money::available;
 use reading::Answer;
 use reading::Reading;
 use set_up::Book;
 use set_up::Stage;
 use set_up::enter;
-use terms::Refusal;
 ghost use mathlib.Core.Path.{_≡_};
 ghost use Rattle.account.specs.Sound.{SoundSheet};
 ghost use Rattle.account.specs.Verdicts.{numberIn};
@@ -25,7 +23,7 @@ pub struct Answered {
     pub book: Book,
 }
 
-pub(crate) fn answered(before: Book, reading: Reading) -> Answered
+pub(crate) fn answer_to(before: Book, reading: Reading) -> Answered
     requires { ⌜ SoundBook before ⌝ }
     ensures { λ r. ⌜ r ≡ answerTo before reading ⌝ }
 {

@@ -1,13 +1,11 @@
 // The desk: a list and a book, run from their bytes, the answers written into places that the caller lends.
 mod answer;
 
-use account::Account;
 use account::Tables;
 use account::Verdict;
-use answer::answered;
+use answer::answer_to;
 use reading::read;
 use set_up::Book;
-use set_up::Stage;
 use set_up::list_verdict;
 ghost use mathlib.Core.Path.{_≡_};
 ghost use Rattle.set_up.specs.Sound.{SoundBook};
@@ -37,7 +35,7 @@ pub fn run_list(
 {
     let verdict = list_verdict(tables, cash);
     match verdict {
-        Verdict::Accepted => run(Book::opened(tables, cash), bytes, numbers, sums),
+        Verdict::Accepted => run_from(Book::opened(tables, cash), bytes, numbers, sums),
         Verdict::Refused(_) => Run {
             verdict,
             answered: 0,
@@ -53,11 +51,11 @@ pub fn run_book(bytes: &[u8], numbers: &mut [u8], sums: &mut [i64]) -> Run
     ensures numbers { λ r. ⌜ now (numbers .exit) ≡ numbersLeft (bookRun (placesIn (now (numbers .entry)) (now (sums .entry))) (now (bytes .entry))) (now (numbers .entry)) ⌝ }
     ensures sums { λ r. ⌜ now (sums .exit) ≡ sumsLeft (bookRun (placesIn (now (numbers .entry)) (now (sums .entry))) (now (bytes .entry))) (now (sums .entry)) ⌝ }
 {
-    run(Book::new(), bytes, numbers, sums)
+    run_from(Book::new(), bytes, numbers, sums)
 }
 
 // Record after record, as long as both slices have a place for its answer.
-fn run(start: Book, bytes: &[u8], numbers: &mut [u8], sums: &mut [i64]) -> Run
+fn run_from(start: Book, bytes: &[u8], numbers: &mut [u8], sums: &mut [i64]) -> Run
     requires { ⌜ SoundBook start ⌝ }
     ensures run { λ r. ⌜ r ≡ told Verdict.Accepted (runFrom (placesIn (now (numbers .entry)) (now (sums .entry))) (now (bytes .entry)) 0 start) ⌝ }
     ensures numbers { λ r. ⌜ now (numbers .exit) ≡ numbersLeft (runFrom (placesIn (now (numbers .entry)) (now (sums .entry))) (now (bytes .entry)) 0 start) (now (numbers .entry)) ⌝ }
@@ -67,7 +65,7 @@ fn run(start: Book, bytes: &[u8], numbers: &mut [u8], sums: &mut [i64]) -> Run
     let mut place = 0;
     let mut k = 0;
     while (k < numbers.len()) & (k < sums.len()) & (place < bytes.len()) {
-        let answer = answered(book, read(bytes, place));
+        let answer = answer_to(book, read(bytes, place));
         let sum = answer.available;
         numbers[k] = answer.number;
         sums[k] = sum;
