@@ -1,0 +1,22 @@
+-- A record goes by its verdict: a check that fails refuses it and leaves the book as it was, and where none fails the book is the one after it.
+use mathlib.Core.Path.{_≡_, sym, ap, _∙_}
+use mathlib.Core.Bool.{Bool, true, false, not}
+use borrow.Author.Tests.{not-true, not-false}
+use Rattle.terms.specs.declared.refusal.Refusal.{Refusal}
+use Rattle.account.specs.Verdicts.{_else_then_}
+use Rattle.account.specs.declared.judged.Verdict.{Verdict}
+use Rattle.account.specs.declared.judged.Verdict.the-variants.{Accepted, Refused}
+use Rattle.set_up.specs.Stages.{enteredAs}
+use Rattle.set_up.specs.declared.stages.Book.{Book}
+use Rattle.set_up.specs.declared.stages.Entered.{Entered}
+
+-- found is what the code found of the check
+module _ (test found : Bool) (is : found ≡ test) (why : Refusal) (rest : Verdict) (b after : Book) where
+  by-test : (answer : Bool) → found ≡ answer → enteredAs (answer else why then rest) b after ≡ enteredAs (test else why then rest) b after
+  by-test answer e = ap (λ (passed : Bool). enteredAs (passed else why then rest) b after) (sym e ∙ is)
+
+  pub check-fails : not found ≡ true → (r : Entered) → r ≡ record { verdict = Refused why; book = b } → r ≡ enteredAs (test else why then rest) b after
+  check-fails fails r refused = refused ∙ by-test false (not-true found fails)
+
+  pub check-passes : not found ≡ false → enteredAs rest b after ≡ enteredAs (test else why then rest) b after
+  check-passes passes = by-test true (not-false found passes)
