@@ -1,96 +1,122 @@
+-- `enter` meets its contract: a record out of its place leaves the book as it was; one in its place goes by its kind, and an entry's place is an open book, whose account is sound.
+use mathlib.Core.Path.{_≡_, refl, sym, ap, _∙_}
+use mathlib.Core.Bool.{true, false, not}
+use mathlib.Core.List.{List, [], _∷_}
+use Prim.Native.Nat.{ℕ, _≤_}
+use native.Mathlib.Omega.{arith}
 use borrow.Author.Needs.{needs}
+use borrow.Author.Tests.{not-false}
+use types.Run.{OneOf, miss}
+use denote.Enum.Declared.{tagOf}
+use Rattle.terms.specs.declared.refusal.Refusal.the-variants.{OutOfPlace}
+use Rattle.entries.specs.Entries.{kindOf}
+use Rattle.entries.specs.Table.{codeOf}
+use Rattle.entries.specs.declared.entry.Entry.{Entry}
+use Rattle.entries.specs.declared.entry.Entry.the-variants.{Deposit, Withdraw, Lock, Unlock, Order, Fill, Cancel, DayEnd, Underlying, Contract, Opening}
+use Rattle.entries.specs.declared.entry.Figures.{Figures}
+use Rattle.entries.specs.declared.kind.Kind.{Kind}
+use Rattle.entries.proofs.entry.Entry as Cases
+use Rattle.account.specs.Steps.{refusalOf}
+use Rattle.account.specs.declared.judged.Verdict.{Verdict}
+use Rattle.set_up.specs.Stages.{bookAfter, bySetUp, contractVerdict, entered, enteredAs, inPlace, openingVerdict, recordVerdict, underlyingVerdict, withEntry}
+use Rattle.set_up.specs.declared.stages.Book.{Book}
+use Rattle.set_up.specs.declared.stages.Entered.{Entered}
+use Rattle.set_up.proofs.Entering.{check-fails, check-passes, open-stage}
 use Rattle.set_up.proofs.stages.enter.Statement.{statement}
 use Rattle.set_up.proofs.stages.enter.Tie as tie
-use Rattle.set_up.proofs.stages.enter.Reads as reads
-use Rattle.set_up.proofs.stages.enter.Lts as lts
-use Rattle.entries.proofs.entry.Entry.kind.Reads as kind-reads
-use Rattle.entries.proofs.kind.Kind.code.Reads as code-reads
-use Rattle.set_up.proofs.stages.contract.Reads as contract-reads
-use Rattle.set_up.proofs.stages.in_place.Reads as in-place-reads
-use Rattle.set_up.proofs.stages.open.Reads as open-reads
-use Rattle.set_up.proofs.stages.refused.Reads as refused-reads
-use Rattle.set_up.proofs.stages.stepped.Reads as stepped-reads
-use Rattle.set_up.proofs.stages.underlying.Reads as underlying-reads
 
--- src/stages.rt:100:25
-kind-requires : tie.Need-kind-requires
-kind-requires c κs = search needs
+-- the cases of the enum that are entries on an open book, by their place in it
+abbrev entries : List ℕ
+entries = 0 ∷ 1 ∷ 2 ∷ 3 ∷ 4 ∷ 5 ∷ 6 ∷ 7 ∷ []
 
--- src/stages.rt:100:25
-code-requires : tie.Need-code-requires
-code-requires c κs = search needs
+module _ (b : Book) (f : Figures) where
+  abbrev verdict : Entry → Verdict
+  verdict entry = bySetUp (underlyingVerdict (b .tables)) (contractVerdict (b .tables)) openingVerdict (refusalOf (b .tables) (b .account) entry f) entry
 
--- src/stages.rt:100:9
-in-place-requires : tie.Need-in-place-requires
-in-place-requires c κs = search needs
+  -- what a record in its place leads to
+  abbrev by-kind : Entry → Entered
+  by-kind entry = enteredAs (verdict entry) b (bookAfter b entry f)
 
--- src/stages.rt:101:9
-refused-requires : tie.Need-refused-requires
-refused-requires c κs = search needs
+  record OnOpenBook (entry : Entry) : Type 0 where
+    few : codeOf (kindOf entry) ≤ 8
+    steps : enteredAs (refusalOf (b .tables) (b .account) entry f) b (withEntry b entry f) ≡ by-kind entry
 
--- src/stages.rt:101:9
+  on-open-book : (entry : Entry) → OneOf entries (tagOf Cases.the-type entry) → OnOpenBook entry
+  unfolding bookAfter
+  on-open-book (Deposit amount) one = record { few = omega arith; steps = refl }
+  on-open-book (Withdraw amount) one = record { few = omega arith; steps = refl }
+  on-open-book (Lock u units) one = record { few = omega arith; steps = refl }
+  on-open-book (Unlock u units) one = record { few = omega arith; steps = refl }
+  on-open-book (Order o) one = record { few = omega arith; steps = refl }
+  on-open-book (Fill fill) one = record { few = omega arith; steps = refl }
+  on-open-book (Cancel number) one = record { few = omega arith; steps = refl }
+  on-open-book (DayEnd n m) one = record { few = omega arith; steps = refl }
+  on-open-book (Underlying row) one = absurd (miss entries 8 tt one)
+  on-open-book (Contract row) one = absurd (miss entries 9 tt one)
+  on-open-book (Opening cash) one = absurd (miss entries 10 tt one)
+
+placed : (c : tie.After-in-place) → let start = c .before .before .before .args in c .in-place .result ≡ inPlace (start .book .stage) (codeOf (kindOf (start .entry)))
+placed c =
+    c .in-place .ensures ∙ ap (inPlace (c .before .before .before .args .book .stage)) (c .before .code .ensures ∙ ap codeOf (c .before .before .kind .ensures))
+
+module _ (c : tie.Else1) where
+  abbrev start : tie.Start
+  start = c .before .before .before .before
+
+  in-place : by-kind (start .args .book) (start .args .figures) (start .args .entry) ≡ entered (start .args .book) (start .args .entry) (start .args .figures)
+  unfolding entered recordVerdict
+  in-place =
+      let b = start .args .book in
+      check-passes _ _ (placed (c .before)) OutOfPlace (verdict b (start .args .figures) (start .args .entry)) b (bookAfter b (start .args .entry) (start .args .figures)) (c .if1 .left)
+
+  -- in each arm the record is known
+  of-kind : (is : Entry) (r : Entered) → start .args .entry ≡ is → r ≡ by-kind (start .args .book) (start .args .figures) is → r ≡ entered (start .args .book) (start .args .entry) (start .args .figures)
+  of-kind is r e so = so ∙ sym (ap (by-kind (start .args .book) (start .args .figures)) e) ∙ in-place
+
 returns : tie.Need-returns
-returns c = ?
+unfolding entered recordVerdict
+returns c = check-fails _ _ (placed (c .before .before)) _ _ _ _ (c .before .if1 .taken) _ (c .refused .ensures)
 
--- src/stages.rt:104:27
-enum-known-entry : tie.Need-enum-known-entry
-enum-known-entry c = search needs
+an-entry : (c : tie.At-match-keys4) → OnOpenBook (c .before .before .before .before .before .args .book) (c .before .before .before .before .before .args .figures) (c .before .before .before .before .before .args .entry)
+an-entry c = on-open-book _ _ _ (c .match .keys4)
 
--- src/stages.rt:104:35
-underlying-requires : tie.Need-underlying-requires
-underlying-requires c κs = search needs
-
--- src/stages.rt:105:25
-enum-known-entry-2 : tie.Need-enum-known-entry-2
-enum-known-entry-2 c = search needs
-
--- src/stages.rt:105:33
-contract-requires : tie.Need-contract-requires
-contract-requires c κs = search needs
-
--- src/stages.rt:106:24
-enum-known-entry-3 : tie.Need-enum-known-entry-3
-enum-known-entry-3 c = search needs
-
--- src/stages.rt:106:33
-open-requires : tie.Need-open-requires
-open-requires c κs = search needs
-
--- src/stages.rt:107:14
 stepped-requires : tie.Need-stepped-requires
-stepped-requires c κs = ?
+stepped-requires c κs =
+    let place = c .before .before in
+    let book = place .before .before .before in
+    let open-now = open-stage _ _ (an-entry c .few) (sym (placed place) ∙ not-false _ (c .before .if1 .left)) in
+    (open-now, book .pre .account open-now)
 
--- src/stages.rt:95:1
 returns-2 : tie.Need-returns-2
-returns-2 c = ?
+unfolding bookAfter
+returns-2 c = of-kind (c .before .before .before .before) _ _ (c .before .before .entry .given .1) (c .underlying .ensures)
 
--- src/stages.rt:95:1
 returns-3 : tie.Need-returns-3
-returns-3 c = ?
+unfolding bookAfter
+returns-3 c = of-kind (c .before .before .before .before) _ _ (c .before .before .entry2 .given .1) (c .contract .ensures)
 
--- src/stages.rt:95:1
 returns-4 : tie.Need-returns-4
-returns-4 c = ?
+unfolding bookAfter
+returns-4 c = of-kind (c .before .before .before .before) _ _ (c .before .before .entry3 .given .1) (c .«open» .ensures)
 
--- src/stages.rt:95:1
 returns-5 : tie.Need-returns-5
-returns-5 c = ?
+returns-5 c = c .stepped .ensures ∙ an-entry (c .before) .steps ∙ in-place (c .before .before)
 
 pub enter-spec : {M : Type 1} → statement M
 enter-spec =
     tie.close
     (tie.spec
-    kind-requires
-    code-requires
-    in-place-requires
-    refused-requires
+    (λ c κs. tt)
+    (λ c κs. tt)
+    (λ c κs. tt)
+    (λ c κs. tt)
     returns
-    enum-known-entry
-    underlying-requires
-    enum-known-entry-2
-    contract-requires
-    enum-known-entry-3
-    open-requires
+    (λ c. search needs)
+    (λ c κs. tt)
+    (λ c. search needs)
+    (λ c κs. tt)
+    (λ c. search needs)
+    (λ c κs. tt)
     stepped-requires
     returns-2
     returns-3
