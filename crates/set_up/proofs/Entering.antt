@@ -8,7 +8,7 @@ use Rattle.terms.specs.Ranges.{_to_}
 use Rattle.terms.specs.declared.refusal.Refusal.{Refusal}
 use Rattle.account.specs.Verdicts.{_else_then_}
 use Rattle.account.specs.declared.judged.Verdict.{Verdict}
-use Rattle.account.specs.declared.judged.Verdict.the-variants.{Accepted, Refused}
+use Rattle.account.specs.declared.judged.Verdict.the-variants.{Refused}
 use Rattle.terms.proofs.Ranges.{inside}
 use Rattle.set_up.specs.Stages.{enteredAs, inPlace}
 use Rattle.set_up.specs.declared.stages.Book.{Book}

@@ -36,64 +36,43 @@ neither false q = refl
 counts : (m n : ℕ) → (leb m 8 && leb n 64) ≡ not (ltb 8 m || ltb 64 n)
 counts m n = rw (at-most m 8, at-most n 64) (neither (ltb 8 m) (ltb 64 n))
 
+-- the verdict where there is a contract, by whether there are too many rows and by what the rows and the cash are
+abbrev judged : Bool → Bool → Bool → Bool → Verdict
+judged many underlyings contracts cash = not many && underlyings && contracts && cash else OutOfRange then Accepted
+
 module _ (t : Tables) (cash : ℕ) where
-  abbrev judged : Bool → Bool → Bool → Bool → Verdict
-  judged few underlyings contracts cash-allowed = few && underlyings && contracts && cash-allowed else OutOfRange then Accepted
-
-  abbrev each-underlying : Bool
-  each-underlying = every (t .m) (λ u. underlyingAllowed (underlying t u))
-
-  abbrev each-contract : Bool
-  each-contract = every (t .n) (λ c. contractAllowed (t .m) (contract t c))
-
   no-contract : t .n ≡ 0 → Refused OutOfPlace ≡ listVerdict t cash
   unfolding listVerdict
   no-contract none = rw (le-ltb 0 (t .n) (omega arith)) refl
 
-  -- what the code found: whether there are too many rows, and of the rows and the cash
-  module _ (some : t .n ≡ 0 → ⊥) (many : Bool) (is : (ltb 8 (t .m) || ltb 64 (t .n)) ≡ many) where
-    by-count : judged (not many) each-underlying each-contract (cash ∈ rangeOf OpeningCash) ≡ listVerdict t cash
-    unfolding listVerdict
-    by-count =
-        rw (lt-ltb 0 (t .n) (omega (arith, some)), counts (t .m) (t .n), is) refl
+  by-count : (t .n ≡ 0 → ⊥) → (many : Bool) → (ltb 8 (t .m) || ltb 64 (t .n)) ≡ many
+      → judged many (every (t .m) (λ u. underlyingAllowed (underlying t u))) (every (t .n) (λ c. contractAllowed (t .m) (contract t c))) (cash ∈ rangeOf OpeningCash) ≡ listVerdict t cash
+  unfolding listVerdict
+  by-count some many is = rw (lt-ltb 0 (t .n) (omega (arith, some)), counts (t .m) (t .n), is) refl
 
-    tested : (underlyings contracts cash-allowed answer : Bool) → underlyings ≡ each-underlying → contracts ≡ each-contract → cash-allowed ≡ (cash ∈ rangeOf OpeningCash)
-        → (underlyings && contracts && cash-allowed) ≡ answer → many ≡ false
-        → (answer else OutOfRange then Accepted) ≡ listVerdict t cash
-    tested underlyings contracts cash-allowed answer u c o e few =
-        ap (λ (b : Bool). b else OutOfRange then Accepted) (sym e) ∙ (λ i. judged (not (sym few i)) (u i) (c i) (o i)) ∙ by-count
-
--- how many rows there are, where there are not too many
 few : (c : tie.Else2) → (c .before .before .args .tables .m ≤ 8) × (c .before .before .args .tables .n ≤ 64)
 few c =
     let t = c .before .before .args .tables in
     let both = counts (t .m) (t .n) ∙ ap not (c .if2 .left) in
     (leb-true _ _ (first-holds (leb (t .m) 8) (leb (t .n) 64) both), leb-true _ _ (second-holds (leb (t .m) 8) (leb (t .n) 64) both))
 
-returns-3 : tie.Need-returns-3
-returns-3 c =
-    let cash = c .before in
-    let contracts = cash .before in
-    let underlyings = contracts .before in
-    let left = underlyings .before .before .before in
-    tested _ _ (left .before .if1 .left) _ (left .if2 .left) _ _ _ _ (underlyings .underlyings-allowed .ensures) (contracts .contracts-allowed .ensures) (cash .allows .ensures) (c .if3 .taken) refl
-
-returns-4 : tie.Need-returns-4
-returns-4 c =
-    let cash = c .before in
-    let contracts = cash .before in
-    let underlyings = contracts .before in
-    let left = underlyings .before .before .before in
-    tested _ _ (left .before .if1 .left) _ (left .if2 .left) _ _ _ _ (underlyings .underlyings-allowed .ensures) (contracts .contracts-allowed .ensures) (cash .allows .ensures) (c .if3 .left) refl
+-- answer is what the code found of the rows and the cash together
+tested : (c : tie.After-allows) (answer : Bool) → (c .before .before .underlyings-allowed .result && c .before .contracts-allowed .result && c .allows .result) ≡ answer
+    → let start = c .before .before .before .before .before .before .before .args in (answer else OutOfRange then Accepted) ≡ listVerdict (start .tables) (start .cash)
+tested c answer e =
+    let left = c .before .before .before .before .before in
+    ap (λ (b : Bool). b else OutOfRange then Accepted) (sym e)
+    ∙ (λ i. judged false (c .before .before .underlyings-allowed .ensures i) (c .before .contracts-allowed .ensures i) (c .allows .ensures i))
+    ∙ by-count _ _ (left .before .if1 .left) false (left .if2 .left)
 
 pub list-verdict-spec : {M : Type 1} → statement M
 list-verdict-spec =
     tie.close
     (tie.spec
     (λ c. no-contract _ _ (c .if1 .taken))
-    (λ c. by-count _ _ (c .before .if1 .left) _ (c .if2 .taken))
+    (λ c. by-count _ _ (c .before .if1 .left) true (c .if2 .taken))
     (λ c κs. few (c .before .before) .0)
     (λ c κs. few (c .before .before .before) .1)
     (λ c κs. tt)
-    returns-3
-    returns-4)
+    (λ c. tested (c .before) true (c .if3 .taken))
+    (λ c. tested (c .before) false (c .if3 .left)))

@@ -2,7 +2,6 @@
 use mathlib.Core.Path.{_≡_, ap}
 use mathlib.Core.Bool.{Bool, _&&_}
 use native.Mathlib.Omega.{arith}
-use borrow.Author.Needs.{needs}
 use borrow.Author.Tests.{ltb-true, not-false}
 use lib.Dec.{ltb}
 use Rattle.account.specs.Sound.{contractAllowed}

@@ -1,6 +1,5 @@
 -- `enter` meets its contract: a record out of its place leaves the book as it was; one in its place goes by its kind, and an entry's place is an open book, whose account is sound.
 use mathlib.Core.Path.{_≡_, refl, sym, ap, _∙_}
-use mathlib.Core.Bool.{true, false, not}
 use mathlib.Core.List.{List, [], _∷_}
 use Prim.Native.Nat.{ℕ, _≤_}
 use native.Mathlib.Omega.{arith}
@@ -14,7 +13,6 @@ use Rattle.entries.specs.Table.{codeOf}
 use Rattle.entries.specs.declared.entry.Entry.{Entry}
 use Rattle.entries.specs.declared.entry.Entry.the-variants.{Deposit, Withdraw, Lock, Unlock, Order, Fill, Cancel, DayEnd, Underlying, Contract, Opening}
 use Rattle.entries.specs.declared.entry.Figures.{Figures}
-use Rattle.entries.specs.declared.kind.Kind.{Kind}
 use Rattle.entries.proofs.entry.Entry as Cases
 use Rattle.account.specs.Steps.{refusalOf}
 use Rattle.account.specs.declared.judged.Verdict.{Verdict}
