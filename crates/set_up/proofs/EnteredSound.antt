@@ -18,7 +18,7 @@ use Rattle.entries.specs.declared.entry.Entry.the-variants.{Deposit, Withdraw, 
 use Rattle.entries.specs.declared.entry.Figures.{Figures}
 use Rattle.entries.specs.declared.entry.Underlying as Underlyings·of
 use Rattle.account.specs.DayEnd.{every}
-use Rattle.account.specs.Rows.{contract, noContract, noUnderlying, underlying}
+use Rattle.account.specs.Rows.{contract, noContract, noUnderlying}
 use Rattle.account.specs.Sound.{Sound, SoundTables, contractAllowed, underlyingAllowed}
 use Rattle.account.specs.Steps.{accountAfter, outcome, refusalOf, step, tablesAfter}
 use Rattle.account.specs.Verdicts.{_else_then_}
@@ -34,11 +34,11 @@ use Rattle.account.proofs.Rows.{row-added}
 use Rattle.account.proofs.StepSound.{step-sound}
 use Rattle.set_up.specs.Given.{listVerdict, tablesAllowed}
 use Rattle.set_up.specs.Sound.{SoundBook}
-use Rattle.set_up.specs.Stages.{bookAfter, bySetUp, contractVerdict, entered, enteredAs, inPlace, newBook, opened, openingVerdict, recordVerdict, underlyingVerdict, withContract, withEntry, withUnderlying}
+use Rattle.set_up.specs.Stages.{bookAfter, contractVerdict, entered, enteredAs, inPlace, newBook, opened, recordVerdict, underlyingVerdict, withContract, withEntry, withUnderlying}
 use Rattle.set_up.specs.declared.stages.Book.{Book}
 use Rattle.set_up.specs.declared.stages.Stage.{Stage}
 use Rattle.set_up.specs.declared.stages.Stage.the-variants.{Underlyings, Contracts, Entries}
-use Rattle.set_up.proofs.Entering.{open-stage}
+use Rattle.set_up.proofs.Entering.{open-stage, verdict}
 
 abbrev isOpen : Stage → Bool
 isOpen Underlyings = false
@@ -113,8 +113,7 @@ module _ (b : Book) (s : SoundBook b) where
         let next = subst (λ (v : Verdict). Sound (after v .tables) (after v .account)) accepted (step-sound (b .tables) (b .account) entry f before) in
         record { tables = next .tables; account = λ stands. next }
 
-    accepted-sound : (entry : Entry) → inPlace (b .stage) (codeOf (kindOf entry)) ≡ true
-        → bySetUp (underlyingVerdict (b .tables)) (contractVerdict (b .tables)) openingVerdict (refusalOf (b .tables) (b .account) entry f) entry ≡ Accepted → SoundBook (bookAfter b entry f)
+    accepted-sound : (entry : Entry) → inPlace (b .stage) (codeOf (kindOf entry)) ≡ true → verdict b f entry ≡ Accepted → SoundBook (bookAfter b entry f)
     unfolding bookAfter
     accepted-sound (Deposit amount) placed e = entry-sound (Deposit amount) (omega arith) placed e
     accepted-sound (Withdraw amount) placed e = entry-sound (Withdraw amount) (omega arith) placed e

@@ -6,15 +6,22 @@ use native.Mathlib.Omega.{arith}
 use borrow.Author.Tests.{not-true, not-false}
 use Rattle.terms.specs.Ranges.{_to_}
 use Rattle.terms.specs.declared.refusal.Refusal.{Refusal}
+use Rattle.terms.proofs.Ranges.{inside}
+use Rattle.entries.specs.declared.entry.Entry.{Entry}
+use Rattle.entries.specs.declared.entry.Figures.{Figures}
+use Rattle.account.specs.Steps.{refusalOf}
 use Rattle.account.specs.Verdicts.{_else_then_}
 use Rattle.account.specs.declared.judged.Verdict.{Verdict}
 use Rattle.account.specs.declared.judged.Verdict.the-variants.{Refused}
-use Rattle.terms.proofs.Ranges.{inside}
-use Rattle.set_up.specs.Stages.{enteredAs, inPlace}
+use Rattle.set_up.specs.Stages.{bySetUp, contractVerdict, enteredAs, inPlace, openingVerdict, underlyingVerdict}
 use Rattle.set_up.specs.declared.stages.Book.{Book}
 use Rattle.set_up.specs.declared.stages.Entered.{Entered}
 use Rattle.set_up.specs.declared.stages.Stage.{Stage}
 use Rattle.set_up.specs.declared.stages.Stage.the-variants.{Underlyings, Contracts, Entries}
+
+-- the verdict on a record in its place
+abbrev pub verdict : Book → Figures → Entry → Verdict
+verdict b f entry = bySetUp (underlyingVerdict (b .tables)) (contractVerdict (b .tables)) openingVerdict (refusalOf (b .tables) (b .account) entry f) entry
 
 -- found is what the code found of the check
 module _ (test found : Bool) (is : found ≡ test) (why : Refusal) (rest : Verdict) (b after : Book) where

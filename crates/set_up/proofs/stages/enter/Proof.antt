@@ -15,11 +15,10 @@ use Rattle.entries.specs.declared.entry.Entry.the-variants.{Deposit, Withdraw, 
 use Rattle.entries.specs.declared.entry.Figures.{Figures}
 use Rattle.entries.proofs.entry.Entry as Cases
 use Rattle.account.specs.Steps.{refusalOf}
-use Rattle.account.specs.declared.judged.Verdict.{Verdict}
-use Rattle.set_up.specs.Stages.{bookAfter, bySetUp, contractVerdict, entered, enteredAs, inPlace, openingVerdict, recordVerdict, underlyingVerdict, withEntry}
+use Rattle.set_up.specs.Stages.{bookAfter, entered, enteredAs, inPlace, recordVerdict, withEntry}
 use Rattle.set_up.specs.declared.stages.Book.{Book}
 use Rattle.set_up.specs.declared.stages.Entered.{Entered}
-use Rattle.set_up.proofs.Entering.{check-fails, check-passes, open-stage}
+use Rattle.set_up.proofs.Entering.{check-fails, check-passes, open-stage, verdict}
 use Rattle.set_up.proofs.stages.enter.Statement.{statement}
 use Rattle.set_up.proofs.stages.enter.Tie as tie
 
@@ -28,13 +27,11 @@ abbrev entries : List ℕ
 entries = 0 ∷ 1 ∷ 2 ∷ 3 ∷ 4 ∷ 5 ∷ 6 ∷ 7 ∷ []
 
 module _ (b : Book) (f : Figures) where
-  abbrev verdict : Entry → Verdict
-  verdict entry = bySetUp (underlyingVerdict (b .tables)) (contractVerdict (b .tables)) openingVerdict (refusalOf (b .tables) (b .account) entry f) entry
-
   -- what a record in its place leads to
   abbrev by-kind : Entry → Entered
-  by-kind entry = enteredAs (verdict entry) b (bookAfter b entry f)
+  by-kind entry = enteredAs (verdict b f entry) b (bookAfter b entry f)
 
+  -- an entry's number is one of an open book's, and it leads to what the step does
   record OnOpenBook (entry : Entry) : Type 0 where
     few : codeOf (kindOf entry) ≤ 8
     steps : enteredAs (refusalOf (b .tables) (b .account) entry f) b (withEntry b entry f) ≡ by-kind entry
@@ -65,7 +62,7 @@ module _ (c : tie.Else1) where
   unfolding entered recordVerdict
   in-place =
       let b = start .args .book in
-      check-passes _ _ (placed (c .before)) OutOfPlace (verdict b (start .args .figures) (start .args .entry)) b (bookAfter b (start .args .entry) (start .args .figures)) (c .if1 .left)
+      check-passes _ _ (placed (c .before)) OutOfPlace (verdict b (start .args .figures) (start .args .entry)) b _ (c .if1 .left)
 
   -- in each arm the record is known
   of-kind : (is : Entry) (r : Entered) → start .args .entry ≡ is → r ≡ by-kind (start .args .book) (start .args .figures) is → r ≡ entered (start .args .book) (start .args .entry) (start .args .figures)
