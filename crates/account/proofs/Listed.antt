@@ -1,9 +1,10 @@
 -- What is made or tested number by number is so at each number: by induction on how many there are, the last being made or tested last.
-use mathlib.Core.Path.{_≡_, refl, sym, ap, _∙_}
-use mathlib.Core.Bool.{Bool, true, cond}
+use mathlib.Core.Path.{_≡_, refl, sym, ap, subst, _∙_}
+use mathlib.Core.Bool.{Bool, true, false, cond, false≢true}
 use mathlib.Core.List.{[], _∷_, _++_}
 use mathlib.Core.Logic.{inl, inr}
-use Prim.Native.Nat.{ℕ, zero, suc, _≤_, _<_}
+use Prim.Native.Nat.{ℕ, zero, suc, _+_, _≤_, _<_}
+use native.Mathlib.Numerals.{add-one}
 use native.Mathlib.Nat.{eq-or-lt-of-le, le-of-suc-le-suc, not-suc-le-zero}
 use native.Mathlib.Omega.{arith}
 use borrow.Author.Tests.{lt-ltb}
@@ -37,3 +38,18 @@ each-passes (suc n) test all i h =
       | inl e ↦ ap test e ∙ second-holds (every n test) (test n) all
       | inr l ↦ each-passes n test (first-holds (every n test) (test n) all) i l
     ]
+
+-- what a pass that tests one number after the other knows: as long as each passed, every one so far does; one that fails settles the answer
+module _ (test : ℕ → Bool) where
+  pub one-more : (i : ℕ) → every i test ≡ true → test i ≡ true → every (i + 1) test ≡ true
+  one-more i before here = rw (add-one, before, here) refl
+
+  pub one-fails : (n i : ℕ) → i < n → test i ≡ false → every n test ≡ false
+  one-fails n i h here = go (every n test) refl
+    where
+      go : (b : Bool) → every n test ≡ b → b ≡ false
+      go false e = refl
+      go true e = absurd (false≢true (sym here ∙ each-passes n test e i h))
+
+  pub all-passed : (i n : ℕ) → i ≡ n → every i test ≡ true → every n test ≡ true
+  all-passed i n e all = subst (λ (k : ℕ). every k test ≡ true) e all

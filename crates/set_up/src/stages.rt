@@ -184,7 +184,7 @@ fn open(book: Book, cash: u64) -> Entered
 
 // An entry on the open account.
 fn stepped(book: Book, entry: Entry, figures: Figures) -> Entered
-    requires { ⌜ Sound (book .tables) (book .account) ⌝ }
+    requires { ⌜ (book .stage ≡ Stage.Entries) × Sound (book .tables) (book .account) ⌝ }
     ensures { λ r. ⌜ r ≡ enteredAs (refusalOf (book .tables) (book .account) entry figures) book (withEntry book entry figures) ⌝ }
 {
     let before = book.tables;

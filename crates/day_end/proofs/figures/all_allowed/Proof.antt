@@ -1,31 +1,16 @@
 -- `all_allowed` meets its contract: as long as each price passed is in the range, every one so far is; one that is not settles the answer.
-use mathlib.Core.Path.{_≡_, refl, sym, subst, _∙_}
-use mathlib.Core.Bool.{Bool, true, false, false≢true}
-use Prim.Native.Nat.{ℕ, _+_, _-_, _≤_, _<_}
-use native.Mathlib.Numerals.{add-one}
+use mathlib.Core.Path.{_≡_, refl, sym, _∙_}
+use mathlib.Core.Bool.{true}
+use Prim.Native.Nat.{_-_, _≤_}
 use native.Mathlib.Omega.{arith}
 use borrow.Author.Needs.{needs}
 use borrow.Author.Tests.{not-true, not-false}
 use lib.ListN.{getD}
 use Rattle.terms.specs.Ranges.{rangeOf, _∈_}
 use Rattle.account.specs.DayEnd.{every}
-use Rattle.account.proofs.Listed.{each-passes}
+use Rattle.account.proofs.Listed.{all-passed, one-fails, one-more}
 use Rattle.day_end.proofs.figures.all_allowed.Statement.{statement}
 use Rattle.day_end.proofs.figures.all_allowed.Tie as tie
-
-module _ (test : ℕ → Bool) where
-  one-more : (i : ℕ) → every i test ≡ true → test i ≡ true → every (i + 1) test ≡ true
-  one-more i before here = rw (add-one, before, here) refl
-
-  one-fails : (n i : ℕ) → i < n → test i ≡ false → every n test ≡ false
-  one-fails n i h here = go (every n test) refl
-    where
-      go : (b : Bool) → every n test ≡ b → b ≡ false
-      go false e = refl
-      go true e = absurd (false≢true (sym here ∙ each-passes n test e i h))
-
-  all-passed : (i n : ℕ) → i ≡ n → every i test ≡ true → every n test ≡ true
-  all-passed i n e all = subst (λ (k : ℕ). every k test ≡ true) e all
 
 abbrev Inv-loop : tie.InvT-loop
 Inv-loop prices n measure i₀ i = (i ≤ n) × (every i (λ k. getD prices k 0 ∈ rangeOf measure) ≡ true)

@@ -1,0 +1,3 @@
+-- Laws of a record that is entered, which the proofs of functions and the theorems cite.
+pub mod EnteredSound
+pub mod Entering
