@@ -19,6 +19,9 @@ use Rattle.fills.proofs.fill.Reads as fill
 use Rattle.fills.proofs.cancel.Reads as cancel
 use Rattle.day_end.proofs.day_end.Reads as day-end
 use Rattle.steps.proofs.step.Reads as step
+use Rattle.set_up.proofs.enter.Reads as enter
+use Rattle.desk.proofs.run_list.Reads as run-list
+use Rattle.desk.proofs.run_book.Reads as run-book
 
 pub margin-one : (κs : _) (a : _) (r r' : _) (s s' : _) → margin.Post κs a r s → margin.Post κs a r' s' → r ≡ r'
 margin-one κs a r r' s s' p q = p ∙ sym q
@@ -70,3 +73,15 @@ day-end-one κs a r r' s s' p q = p ∙ sym q
 
 pub step-one : (κs : _) (a : _) (r r' : _) (s s' : _) → step.Post κs a r s → step.Post κs a r' s' → r ≡ r'
 step-one κs a r r' s s' p q = p ∙ sym q
+
+pub enter-one : (κs : _) (a : _) (r r' : _) (s s' : _) → enter.Post κs a r s → enter.Post κs a r' s' → r ≡ r'
+enter-one κs a r r' s s' p q = p ∙ sym q
+
+-- and both lent slices end in one way, the numbers and the sums
+pub run-list-one : (κs : _) (a : _) (r r' : _) (s s' : _) → run-list.Post κs a r s → run-list.Post κs a r' s'
+    → (r ≡ r') × (now (s .1 .1 .1 .0) ≡ now (s' .1 .1 .1 .0)) × (now (s .1 .1 .1 .1 .0) ≡ now (s' .1 .1 .1 .1 .0))
+run-list-one κs a r r' s s' p q = (p .0 ∙ sym (q .0), p .1 .0 ∙ sym (q .1 .0), p .1 .1 ∙ sym (q .1 .1))
+
+pub run-book-one : (κs : _) (a : _) (r r' : _) (s s' : _) → run-book.Post κs a r s → run-book.Post κs a r' s'
+    → (r ≡ r') × (now (s .1 .0) ≡ now (s' .1 .0)) × (now (s .1 .1 .0) ≡ now (s' .1 .1 .0))
+run-book-one κs a r r' s s' p q = (p .0 ∙ sym (q .0), p .1 .0 ∙ sym (q .1 .0), p .1 .1 ∙ sym (q .1 .1))
