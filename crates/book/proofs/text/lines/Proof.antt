@@ -1,0 +1,125 @@
+-- `lines` meets its contract. The invariant: the lines of the first i records are put, 32 bytes at most each. A turn puts one more behind them.
+use mathlib.Core.Path.{_≡_, refl, sym, ap, subst, _∙_}
+use mathlib.Core.List.{List, [], _∷_, _++_}
+use Prim.Native.Nat.{ℕ, _+_, _*_, _-_, _≤_, _<_}
+use native.Mathlib.Omega.{arith}
+use borrow.Author.Needs.{needs}
+use lib.IntN.{ℤ, pos}
+use lib.ListN.{length, getD, take}
+use lib.Seq.{length-take-le}
+use mir.Syntax.{w64}
+use mir.Val.{SFits, ofZ, toZ}
+use mir.ValLaws.{toZ-ofZ}
+use Rattle.book.specs.Lines.{lineOf, linesFrom}
+use Rattle.book.proofs.Lengths.{line-within}
+use Rattle.book.proofs.Numbering.{next-line}
+use Rattle.book.proofs.Puts.{Put, then, from-the-start}
+use Rattle.book.proofs.text.lines.Statement.{statement}
+use Rattle.book.proofs.text.lines.Tie as tie
+use Rattle.book.proofs.text.lines.Reads as reads
+use Rattle.book.proofs.text.lines.Lts as lts
+use Rattle.book.proofs.text.line.Reads as line-reads
+
+abbrev Inv-loop : tie.InvT-loop
+Inv-loop refusals sums count out₀ at₀ i₀ out at i =
+    (i ≤ count) × ((at ≤ 32 * i) × ((length out ≡ length out₀) × Put out₀ 0 (linesFrom 1 (take i refusals) (take i sums)) out at))
+
+abbrev μ-loop : tie.MeasureT-loop
+μ-loop refusals sums count out₀ at₀ i₀ out at i = count - i
+
+module _ (c : tie.After-line-arg2 Inv-loop μ-loop) where
+  abbrev loop : tie.At-loop Inv-loop μ-loop
+  loop = c .before .before .before .before
+
+  abbrev refusal : ℕ
+  refusal = getD (loop .before .before .before .args .refusals .now) (loop .loop .i) 0
+
+  abbrev sum : ℤ
+  sum = getD (loop .before .before .before .args .sums .now) (loop .loop .i) (pos 0)
+
+  in-range : SFits w64 sum
+  in-range = record { sfits = c .line-arg2 .given }
+
+  -- the sum as its bits read, which is the sum
+  itself : toZ w64 (ofZ w64 sum) ≡ sum
+  itself = toZ-ofZ w64 sum in-range
+
+  short : length (lineOf (loop .loop .i + 1) refusal sum) ≤ 32
+  short = line-within _ refusal sum (omega arith) (omega (arith, c .before .shared-slice-known2 .given (loop .loop .i))) in-range
+
+loop-holds : tie.Need-loop-holds Inv-loop μ-loop
+unfolding linesFrom
+loop-holds c = (search needs, (search needs, (refl, (refl, refl))))
+
+add-line : tie.Need-add-line Inv-loop μ-loop
+add-line c = omega arith
+
+shared-slice-read-line : tie.Need-shared-slice-read-line Inv-loop μ-loop
+shared-slice-read-line c = omega arith
+
+mul-line : tie.Need-mul-line Inv-loop μ-loop
+mul-line c = record { fits = omega arith }
+
+shared-slice-copy-out-line : tie.Need-shared-slice-copy-out-line Inv-loop μ-loop
+shared-slice-copy-out-line c = omega arith
+
+line-requires : tie.Need-line-requires Inv-loop μ-loop
+line-requires c κs = let s = short c in rw (itself c) (omega arith)
+
+add-i : tie.Need-add-i Inv-loop μ-loop
+add-i c = omega arith
+
+loop-less : tie.Need-loop-less Inv-loop μ-loop
+loop-less c = omega arith
+
+loop-again : tie.Need-loop-again Inv-loop μ-loop
+loop-again c =
+    let put = c .before .before in
+    let turn = put .before in
+    let start = loop turn .before .before .before in
+    let s = short turn in
+    let i = loop turn .loop .i in
+    let line = rw (itself turn) at (put .line .ensures) in (
+      search needs,
+      (
+        omega (arith, line .0),
+        (
+          put .line .kept .0 ∙ loop turn .loop .inv .1 .1 .0,
+          subst (λ (ls : List ℕ). Put (start .args .out .now) 0 ls (put .line .last .0) (put .line .result))
+              (sym (next-line i (start .args .refusals .now) (start .args .sums .now) (omega arith) (omega arith)))
+              (then (start .args .out .now) 0 (linesFrom 1 (take i (start .args .refusals .now)) (take i (start .args .sums .now))) (lineOf (i + 1) (refusal turn) (sum turn)) _ _ _ _ (loop turn .loop .inv .1 .1 .1) line),
+        ),
+      ),
+    )
+
+same-length : tie.Need-same-length Inv-loop μ-loop
+same-length c = c .before .loop .inv .1 .1 .0
+
+returns : tie.Need-returns Inv-loop μ-loop
+returns c =
+    let start = c .before .before .before .before in
+    let i = c .before .loop .i in
+    let after = c .before .loop .out in
+    let end = c .before .loop .at in
+    let all : i ≡ start .args .count = omega arith in
+    let room : end ≤ length after = omega arith in
+    let put = from-the-start (start .args .out .now) (linesFrom 1 (take i (start .args .refusals .now)) (take i (start .args .sums .now))) after end (omega arith) (c .before .loop .inv .1 .1 .1) in
+    rw (← all) (put .0, (put .1, (room, sym (length-take-le end after room))))
+
+pub lines-spec : {M : Type 1} → statement M
+lines-spec =
+    tie.close
+    (tie.spec
+    Inv-loop
+    μ-loop
+    loop-holds
+    add-line
+    shared-slice-read-line
+    mul-line
+    shared-slice-copy-out-line
+    line-requires
+    add-i
+    loop-less
+    loop-again
+    same-length
+    returns)

@@ -1,0 +1,99 @@
+-- `signed` meets its contract: below zero the minus stands before the digits of the magnitude; else the digits are all.
+use mathlib.Core.Path.{_≡_, refl, sym, ap, _∙_}
+use mathlib.Core.Bool.{true, false, true≢false}
+use mathlib.Core.List.{_∷_}
+use Prim.Native.Nat.{ℕ, _+_}
+use native.Mathlib.Omega.{arith}
+use borrow.Author.Needs.{needs}
+use borrow.Author.Tests.{ltb-true}
+use lib.IntN.{ℤ, pos, negsuc, natAbs}
+use lib.ListN.{length, length-set}
+use lib.Signed.{ltZ}
+use mir.Syntax.{w64}
+use mir.Val.{ofZ, toZ}
+use mir.ValLaws.{toZ-ofZ}
+use Rattle.book.specs.Lines.{decimal, signed}
+use Rattle.book.proofs.Puts.{after-byte}
+use Rattle.book.proofs.text.signed.Statement.{statement}
+use Rattle.book.proofs.text.signed.Tie as tie
+use Rattle.book.proofs.text.signed.Reads as reads
+use Rattle.book.proofs.text.signed.Lts as lts
+use Rattle.book.proofs.text.decimal.Reads as decimal-reads
+use Rattle.book.proofs.text.magnitude.Reads as magnitude-reads
+
+below : (z : ℤ) → ltZ z (pos 0) ≡ true → signed z ≡ 45 ∷ decimal (natAbs z)
+unfolding signed
+below (pos n) h = let none = ltb-true n 0 h in absurd (omega arith)
+below (negsuc n) h = refl
+
+from-zero : (z : ℤ) → ltZ z (pos 0) ≡ false → signed z ≡ decimal (natAbs z)
+unfolding signed
+from-zero (pos n) h = refl
+from-zero (negsuc n) h = absurd (true≢false h)
+
+itself : (start : tie.Start) → toZ w64 (ofZ w64 (start .args .n)) ≡ start .args .n
+itself start = toZ-ofZ w64 _ (start .fits .n)
+
+test : (start : tie.Start) → ltZ (start .args .n) (pos 0) ≡ ltZ (toZ w64 (ofZ w64 (start .args .n))) (pos 0)
+test start = ap (λ (z : ℤ). ltZ z (pos 0)) (sym (itself start))
+
+minus : (c : tie.Then1) → signed (c .before .before .args .n) ≡ 45 ∷ decimal (natAbs (c .before .before .args .n))
+minus c = below _ (test (c .before .before) ∙ c .if1 .taken)
+
+minus-digits : (c : tie.After-magnitude) → signed (c .before .before .before .before .args .n) ≡ 45 ∷ decimal (c .magnitude .result)
+minus-digits c = minus (c .before .before) ∙ ap (λ (k : ℕ). 45 ∷ decimal k) (sym (c .magnitude .ensures ∙ ap natAbs (itself (c .before .before .before .before))))
+
+digits : (c : tie.After-magnitude2) → signed (c .before .before .before .before .args .n) ≡ decimal (c .magnitude2 .result)
+digits c =
+    let start = c .before .before .before .before in
+    from-zero _ (test start ∙ c .before .before .if1 .left) ∙ ap decimal (sym (c .magnitude2 .ensures ∙ ap natAbs (itself start)))
+
+slice-write-out : tie.Need-slice-write-out
+slice-write-out c = let long = ap length (minus c) in omega arith
+
+add-decimal : tie.Need-add-decimal
+add-decimal c = search needs
+
+magnitude-requires : tie.Need-magnitude-requires
+magnitude-requires c κs = search needs
+
+decimal-requires : tie.Need-decimal-requires
+decimal-requires c κs = let long = ap length (minus-digits c) in simp length-set (omega arith)
+
+magnitude-requires-2 : tie.Need-magnitude-requires-2
+magnitude-requires-2 c κs = search needs
+
+decimal-requires-2 : tie.Need-decimal-requires-2
+decimal-requires-2 c κs = let long = ap length (digits c) in omega arith
+
+same-length : tie.Need-same-length
+same-length c =
+    let start = c .before .before .before .before .before .before .before in
+    c .before .before .decimal .kept .0 ∙ length-set (start .args .out .now) (start .args .at) 45
+
+returns : tie.Need-returns
+returns c =
+    let start = c .before .before .before .before .before .before .before in
+    rw (minus-digits (c .before .before .before))
+    (after-byte (start .args .out .now) (start .args .at) 45 (decimal (c .before .before .before .magnitude .result)) _ _ (c .before .before .decimal .ensures))
+
+same-length-2 : tie.Need-same-length-2
+same-length-2 c = search needs
+
+returns-2 : tie.Need-returns-2
+returns-2 c = rw (digits (c .before .before .before)) (c .before .before .decimal2 .ensures)
+
+pub signed-spec : {M : Type 1} → statement M
+signed-spec =
+    tie.close
+    (tie.spec
+    slice-write-out
+    add-decimal
+    magnitude-requires
+    decimal-requires
+    magnitude-requires-2
+    decimal-requires-2
+    same-length
+    returns
+    same-length-2
+    returns-2)
