@@ -4,7 +4,7 @@ use mathlib.Core.Bool.{Bool, true, false, cond}
 use mathlib.Core.List.{List, [], _∷_, _++_}
 use Prim.Native.Nat.{ℕ, zero, suc, _+_, _/_, _%_, _^_, _≤_, _<_, zero-le}
 use native.Mathlib.Omega.{arith}
-use borrow.Author.Tests.{lt-ltb, le-ltb, ltb-true, ltb-false}
+use borrow.Author.Tests.{lt-ltb, le-ltb, ltb-false}
 use lib.Dec.{ltb}
 use lib.ListN.{length, length-append}
 use Rattle.book.specs.Lines.{digit, digitsIn, decimal}
@@ -12,6 +12,9 @@ use Rattle.book.specs.Lines.{digit, digitsIn, decimal}
 pub one-digit : (n : ℕ) → n < 10 → decimal n ≡ digit n ∷ []
 unfolding decimal digitsIn
 one-digit n h = rw (lt-ltb n 10 h)
+
+pub one-long : (n : ℕ) → n < 10 → length (decimal n) ≡ 1
+one-long n h = ap length (one-digit n h)
 
 room-left : (k n : ℕ) → n < 10 ^ suc k → digitsIn (suc (suc k)) n ≡ digitsIn (suc k) n
 unfolding digitsIn
@@ -21,6 +24,9 @@ room-left (suc k) n h = ap (λ (l : List ℕ). cond (ltb n 10) (digit n ∷ []) 
 pub more-digits : (n : ℕ) → 10 ≤ n → n < 10 ^ 20 → decimal n ≡ decimal (n / 10) ++ digit (n % 10) ∷ []
 unfolding decimal digitsIn
 more-digits n h small = rw (le-ltb n 10 h) (ap (λ (l : List ℕ). l ++ digit (n % 10) ∷ []) (sym (room-left 18 (n / 10) (omega arith))))
+
+pub one-longer : (n : ℕ) → 10 ≤ n → n < 10 ^ 20 → length (decimal n) ≡ length (decimal (n / 10)) + 1
+one-longer n h small = ap length (more-digits n h small) ∙ length-append (decimal (n / 10)) (digit (n % 10) ∷ [])
 
 few-digits-in : (most k n : ℕ) → n < 10 ^ suc k → length (digitsIn most n) ≤ suc k
 unfolding digitsIn

@@ -1,6 +1,5 @@
 -- How long a line is: its three numbers, two spaces and its end; 32 bytes at most, as its number has six digits at most, a refusal's three, and available 19 and a minus.
-use mathlib.Core.Path.{_≡_, refl, ap, _∙_}
-use mathlib.Core.List.{List, [], _∷_, _++_}
+use mathlib.Core.Path.{_≡_}
 use Prim.Native.Nat.{ℕ, suc, _+_, _≤_, _<_}
 use native.Mathlib.Omega.{arith}
 use lib.IntN.{ℤ, pos, negsuc}

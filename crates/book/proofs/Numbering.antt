@@ -1,5 +1,5 @@
 -- The lines of one record more are those before it and its own, whose number is the first one's and as many more as lines stand before it.
-use mathlib.Core.Path.{_≡_, refl, sym, ap, _∙_}
+use mathlib.Core.Path.{_≡_, sym, ap, _∙_}
 use mathlib.Core.List.{List, [], _∷_, _++_, append-nil, append-assoc}
 use Prim.Native.Nat.{ℕ, zero, suc, _+_, _<_}
 use native.Mathlib.Nat.{add-comm, add-zero, add-suc, suc-add}

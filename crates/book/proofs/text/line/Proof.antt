@@ -1,5 +1,5 @@
 -- `line` meets its contract: each part is put where the one before it ends.
-use mathlib.Core.Path.{_≡_, refl, sym, ap, _∙_}
+use mathlib.Core.Path.{_≡_, refl, ap, _∙_}
 use mathlib.Core.List.{List, [], _∷_, _++_}
 use Prim.Native.Nat.{ℕ, _+_}
 use borrow.Author.Needs.{needs}
@@ -14,10 +14,6 @@ use Rattle.book.proofs.Lengths.{length-line}
 use Rattle.book.proofs.Puts.{then, after-byte}
 use Rattle.book.proofs.text.line.Statement.{statement}
 use Rattle.book.proofs.text.line.Tie as tie
-use Rattle.book.proofs.text.line.Reads as reads
-use Rattle.book.proofs.text.line.Lts as lts
-use Rattle.book.proofs.text.decimal.Reads as decimal-reads
-use Rattle.book.proofs.text.signed.Reads as signed-reads
 
 long : (start : tie.Start)
     → length (lineOf (start .args .number) (start .args .refusal) (start .args .available))

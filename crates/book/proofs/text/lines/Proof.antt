@@ -1,7 +1,7 @@
 -- `lines` meets its contract. The invariant: the lines of the first i records are put, 32 bytes at most each. A turn puts one more behind them.
-use mathlib.Core.Path.{_≡_, refl, sym, ap, subst, _∙_}
-use mathlib.Core.List.{List, [], _∷_, _++_}
-use Prim.Native.Nat.{ℕ, _+_, _*_, _-_, _≤_, _<_}
+use mathlib.Core.Path.{_≡_, refl, sym, subst, _∙_}
+use mathlib.Core.List.{List}
+use Prim.Native.Nat.{ℕ, _+_, _*_, _-_, _≤_}
 use native.Mathlib.Omega.{arith}
 use borrow.Author.Needs.{needs}
 use lib.IntN.{ℤ, pos}
@@ -16,9 +16,6 @@ use Rattle.book.proofs.Numbering.{next-line}
 use Rattle.book.proofs.Puts.{Put, then, from-the-start}
 use Rattle.book.proofs.text.lines.Statement.{statement}
 use Rattle.book.proofs.text.lines.Tie as tie
-use Rattle.book.proofs.text.lines.Reads as reads
-use Rattle.book.proofs.text.lines.Lts as lts
-use Rattle.book.proofs.text.line.Reads as line-reads
 
 abbrev Inv-loop : tie.InvT-loop
 Inv-loop refusals sums count out₀ at₀ i₀ out at i =
@@ -51,27 +48,6 @@ loop-holds : tie.Need-loop-holds Inv-loop μ-loop
 unfolding linesFrom
 loop-holds c = (search needs, (search needs, (refl, (refl, refl))))
 
-add-line : tie.Need-add-line Inv-loop μ-loop
-add-line c = omega arith
-
-shared-slice-read-line : tie.Need-shared-slice-read-line Inv-loop μ-loop
-shared-slice-read-line c = omega arith
-
-mul-line : tie.Need-mul-line Inv-loop μ-loop
-mul-line c = record { fits = omega arith }
-
-shared-slice-copy-out-line : tie.Need-shared-slice-copy-out-line Inv-loop μ-loop
-shared-slice-copy-out-line c = omega arith
-
-line-requires : tie.Need-line-requires Inv-loop μ-loop
-line-requires c κs = let s = short c in rw (itself c) (omega arith)
-
-add-i : tie.Need-add-i Inv-loop μ-loop
-add-i c = omega arith
-
-loop-less : tie.Need-loop-less Inv-loop μ-loop
-loop-less c = omega arith
-
 loop-again : tie.Need-loop-again Inv-loop μ-loop
 loop-again c =
     let put = c .before .before in
@@ -92,9 +68,6 @@ loop-again c =
       ),
     )
 
-same-length : tie.Need-same-length Inv-loop μ-loop
-same-length c = c .before .loop .inv .1 .1 .0
-
 returns : tie.Need-returns Inv-loop μ-loop
 returns c =
     let start = c .before .before .before .before in
@@ -113,13 +86,13 @@ lines-spec =
     Inv-loop
     μ-loop
     loop-holds
-    add-line
-    shared-slice-read-line
-    mul-line
-    shared-slice-copy-out-line
-    line-requires
-    add-i
-    loop-less
+    (λ c. omega arith)
+    (λ c. omega arith)
+    (λ c. record { fits = omega arith })
+    (λ c. omega arith)
+    (λ c κs. let s = short c in rw (itself c) (omega arith))
+    (λ c. omega arith)
+    (λ c. omega arith)
     loop-again
-    same-length
+    (λ c. c .before .loop .inv .1 .1 .0)
     returns)

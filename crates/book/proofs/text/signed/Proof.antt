@@ -2,7 +2,7 @@
 use mathlib.Core.Path.{_≡_, refl, sym, ap, _∙_}
 use mathlib.Core.Bool.{true, false, true≢false}
 use mathlib.Core.List.{_∷_}
-use Prim.Native.Nat.{ℕ, _+_}
+use Prim.Native.Nat.{ℕ}
 use native.Mathlib.Omega.{arith}
 use borrow.Author.Needs.{needs}
 use borrow.Author.Tests.{ltb-true}
@@ -16,10 +16,6 @@ use Rattle.book.specs.Lines.{decimal, signed}
 use Rattle.book.proofs.Puts.{after-byte}
 use Rattle.book.proofs.text.signed.Statement.{statement}
 use Rattle.book.proofs.text.signed.Tie as tie
-use Rattle.book.proofs.text.signed.Reads as reads
-use Rattle.book.proofs.text.signed.Lts as lts
-use Rattle.book.proofs.text.decimal.Reads as decimal-reads
-use Rattle.book.proofs.text.magnitude.Reads as magnitude-reads
 
 below : (z : ℤ) → ltZ z (pos 0) ≡ true → signed z ≡ 45 ∷ decimal (natAbs z)
 unfolding signed
@@ -48,24 +44,6 @@ digits c =
     let start = c .before .before .before .before in
     from-zero _ (test start ∙ c .before .before .if1 .left) ∙ ap decimal (sym (c .magnitude2 .ensures ∙ ap natAbs (itself start)))
 
-slice-write-out : tie.Need-slice-write-out
-slice-write-out c = let long = ap length (minus c) in omega arith
-
-add-decimal : tie.Need-add-decimal
-add-decimal c = search needs
-
-magnitude-requires : tie.Need-magnitude-requires
-magnitude-requires c κs = search needs
-
-decimal-requires : tie.Need-decimal-requires
-decimal-requires c κs = let long = ap length (minus-digits c) in simp length-set (omega arith)
-
-magnitude-requires-2 : tie.Need-magnitude-requires-2
-magnitude-requires-2 c κs = search needs
-
-decimal-requires-2 : tie.Need-decimal-requires-2
-decimal-requires-2 c κs = let long = ap length (digits c) in omega arith
-
 same-length : tie.Need-same-length
 same-length c =
     let start = c .before .before .before .before .before .before .before in
@@ -77,23 +55,17 @@ returns c =
     rw (minus-digits (c .before .before .before))
     (after-byte (start .args .out .now) (start .args .at) 45 (decimal (c .before .before .before .magnitude .result)) _ _ (c .before .before .decimal .ensures))
 
-same-length-2 : tie.Need-same-length-2
-same-length-2 c = search needs
-
-returns-2 : tie.Need-returns-2
-returns-2 c = rw (digits (c .before .before .before)) (c .before .before .decimal2 .ensures)
-
 pub signed-spec : {M : Type 1} → statement M
 signed-spec =
     tie.close
     (tie.spec
-    slice-write-out
-    add-decimal
-    magnitude-requires
-    decimal-requires
-    magnitude-requires-2
-    decimal-requires-2
+    (λ c. let long = ap length (minus c) in omega arith)
+    (λ c. search needs)
+    (λ c κs. search needs)
+    (λ c κs. let long = ap length (minus-digits c) in simp length-set (omega arith))
+    (λ c κs. search needs)
+    (λ c κs. let long = ap length (digits c) in omega arith)
     same-length
     returns
-    same-length-2
-    returns-2)
+    (λ c. search needs)
+    (λ c. rw (digits (c .before .before .before)) (c .before .before .decimal2 .ensures)))
