@@ -1,7 +1,7 @@
 -- `lines` meets its contract. The invariant: the lines of the first i records are put, 32 bytes at most each. A turn puts one more behind them.
 use mathlib.Core.Path.{_≡_, refl, sym, subst, _∙_}
 use mathlib.Core.List.{List}
-use Prim.Native.Nat.{ℕ, _+_, _*_, _-_, _≤_}
+use Prim.Native.Nat.{ℕ, _+_, _*_, _-_, _≤_, _<_}
 use native.Mathlib.Omega.{arith}
 use borrow.Author.Needs.{needs}
 use lib.IntN.{ℤ, pos}
@@ -19,7 +19,7 @@ use Rattle.book.proofs.text.lines.Tie as tie
 
 abbrev Inv-loop : tie.InvT-loop
 Inv-loop refusals sums count out₀ at₀ i₀ out at i =
-    (i ≤ count) × ((at ≤ 32 * i) × ((length out ≡ length out₀) × Put out₀ 0 (linesFrom 1 (take i refusals) (take i sums)) out at))
+    Put out₀ 0 (linesFrom 1 (take i refusals) (take i sums)) out at × ((length out ≡ length out₀) × ((i ≤ count) × (at ≤ 32 * i)))
 
 abbrev μ-loop : tie.MeasureT-loop
 μ-loop refusals sums count out₀ at₀ i₀ out at i = count - i
@@ -46,7 +46,13 @@ module _ (c : tie.After-line-arg2 Inv-loop μ-loop) where
 
 loop-holds : tie.Need-loop-holds Inv-loop μ-loop
 unfolding linesFrom
-loop-holds c = (search needs, (search needs, (refl, (refl, refl))))
+loop-holds c = ((refl, refl), (refl, search needs))
+
+one-more : (i : ℕ) (refusals : List ℕ) (sums : List ℤ) (l : List ℕ) {now after : List ℕ} {at end : ℕ} → i < length refusals → i < length sums
+    → Put l 0 (linesFrom 1 (take i refusals) (take i sums)) now at → Put now at (lineOf (i + 1) (getD refusals i 0) (getD sums i (pos 0))) after end
+    → Put l 0 (linesFrom 1 (take (i + 1) refusals) (take (i + 1) sums)) after end
+one-more i refusals sums l {now} {after} {at} {end} h g so-far line =
+    subst (λ (ls : List ℕ). Put l 0 ls after end) (sym (next-line i refusals sums h g)) (then l 0 (linesFrom 1 (take i refusals) (take i sums)) (lineOf (i + 1) (getD refusals i 0) (getD sums i (pos 0))) now at after end so-far line)
 
 loop-again : tie.Need-loop-again Inv-loop μ-loop
 loop-again c =
@@ -55,18 +61,8 @@ loop-again c =
     let start = loop turn .before .before .before in
     let s = short turn in
     let i = loop turn .loop .i in
-    let line = rw (itself turn) at (put .line .ensures) in (
-      search needs,
-      (
-        omega (arith, line .0),
-        (
-          put .line .kept .0 ∙ loop turn .loop .inv .1 .1 .0,
-          subst (λ (ls : List ℕ). Put (start .args .out .now) 0 ls (put .line .last .0) (put .line .result))
-              (sym (next-line i (start .args .refusals .now) (start .args .sums .now) (omega arith) (omega arith)))
-              (then (start .args .out .now) 0 (linesFrom 1 (take i (start .args .refusals .now)) (take i (start .args .sums .now))) (lineOf (i + 1) (refusal turn) (sum turn)) _ _ _ _ (loop turn .loop .inv .1 .1 .1) line),
-        ),
-      ),
-    )
+    let line = rw (itself turn) at (put .line .ensures) in
+    (one-more i (start .args .refusals .now) (start .args .sums .now) (start .args .out .now) (omega arith) (omega arith) (loop turn .loop .inv .0) line, (put .line .kept .0 ∙ loop turn .loop .inv .1 .0, (search needs, omega (arith, line .0))))
 
 returns : tie.Need-returns Inv-loop μ-loop
 returns c =
@@ -76,7 +72,7 @@ returns c =
     let end = c .before .loop .at in
     let all : i ≡ start .args .count = omega arith in
     let room : end ≤ length after = omega arith in
-    let put = from-the-start (start .args .out .now) (linesFrom 1 (take i (start .args .refusals .now)) (take i (start .args .sums .now))) after end (omega arith) (c .before .loop .inv .1 .1 .1) in
+    let put = from-the-start (start .args .out .now) (linesFrom 1 (take i (start .args .refusals .now)) (take i (start .args .sums .now))) after end (omega arith) (c .before .loop .inv .0) in
     rw (← all) (put .0, (put .1, (room, sym (length-take-le end after room))))
 
 pub lines-spec : {M : Type 1} → statement M
@@ -94,5 +90,5 @@ lines-spec =
     (λ c. omega arith)
     (λ c. omega arith)
     loop-again
-    (λ c. c .before .loop .inv .1 .1 .0)
+    (λ c. c .before .loop .inv .1 .0)
     returns)

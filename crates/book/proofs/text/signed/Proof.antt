@@ -47,7 +47,7 @@ digits c =
 same-length : tie.Need-same-length
 same-length c =
     let start = c .before .before .before .before .before .before .before in
-    c .before .before .decimal .kept .0 ∙ length-set (start .args .out .now) (start .args .at) 45
+    c .before .before .decimal .kept .0 ∙ length-set (start .args .out .now) (start .args .at) _
 
 returns : tie.Need-returns
 returns c =
