@@ -1,8 +1,8 @@
 // The lines that the book program prints, put into lent bytes.
+use lines::output::magnitude;
 ghost use mathlib.Core.Path.{_≡_};
 ghost use mathlib.Core.List.{_++_};
 ghost use Prim.Native.Nat.{_+_, _*_, _≤_, _<_};
-ghost use lib.IntN.{natAbs};
 ghost use lib.ListN.{length, take, drop};
 ghost use lib.Seq.{sets};
 ghost use Rattle.io.specs.Counts.{Counts};
@@ -52,13 +52,6 @@ fn signed(out: &mut [u8], at: usize, n: i64) -> usize
     } else {
         decimal(out, at, magnitude(n))
     }
-}
-
-// A number without its sign.
-fn magnitude(n: i64) -> u64
-    ensures { λ r. ⌜ r ≡ natAbs n ⌝ }
-{
-    if n < 0 { (-1 - n) as u64 + 1 } else { n as u64 }
 }
 
 // A number's digits from a place on, those before the last one first; where they end.

@@ -12,8 +12,8 @@ use lib.Signed.{ltZ, nonNeg}
 use mir.Syntax.{w64}
 use mir.Val.{Fits, SFits, ofZ, toZ}
 use mir.ValLaws.{toZ-ofZ}
-use Rattle.book.proofs.text.magnitude.Statement.{statement}
-use Rattle.book.proofs.text.magnitude.Tie as tie
+use Rattle.lines.proofs.output.magnitude.Statement.{statement}
+use Rattle.lines.proofs.output.magnitude.Tie as tie
 
 record Lacks (z : ℤ) : Type 0 where
   lack : ℕ
