@@ -1,6 +1,8 @@
 // What is written to standard output.
 use libc::STDOUT_FILENO;
 use terms::Refusal;
+ghost use mathlib.Core.Path.{_≡_};
+ghost use lib.IntN.{natAbs};
 
 pub fn text(bytes: &[u8]) {
     io::write_all(STDOUT_FILENO, bytes);
@@ -15,10 +17,17 @@ pub fn number(n: u64) {
 pub fn signed(n: i64) {
     if n < 0 {
         text(b" -");
-        io::print_decimal(STDOUT_FILENO, (-1 - n) as u64 + 1);
+        io::print_decimal(STDOUT_FILENO, magnitude(n));
     } else {
-        number(n as u64);
+        number(magnitude(n));
     }
+}
+
+// A number without its sign.
+pub fn magnitude(n: i64) -> u64
+    ensures { λ r. ⌜ r ≡ natAbs n ⌝ }
+{
+    if n < 0 { (-1 - n) as u64 + 1 } else { n as u64 }
 }
 
 pub fn refused(why: Refusal) {

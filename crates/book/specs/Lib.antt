@@ -1,0 +1,2 @@
+-- What the book program prints.
+pub mod Lines
