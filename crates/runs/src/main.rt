@@ -37,7 +37,7 @@ fn run(s: &[u8]) {
     }
 }
 
-// Of each line the places for numbers and for sums. A line that asks nothing is a remark.
+// Which fields say how many places are lent, for numbers and for sums. A line that asks nothing is a remark.
 fn line(l: &[u8]) {
     text(l);
     match letter(l) {

@@ -17,7 +17,7 @@ pub fn told(run: Run) {
     number(code(verdict));
     number(run.answered as u64);
     number(run.place as u64);
-    number(step(stage));
+    number(stage_number(stage));
     number(tables.m as u64);
     number(tables.n as u64);
 }
@@ -29,7 +29,7 @@ fn code(verdict: Verdict) -> u64 {
     }
 }
 
-fn step(stage: Stage) -> u64 {
+fn stage_number(stage: Stage) -> u64 {
     match stage {
         Stage::Underlyings => 1,
         Stage::Contracts => 2,
