@@ -1,4 +1,4 @@
-# The second working: its own tests, which hold it to the stored answers of `cases` and `edges` too.
+# The second working: its own tests, which hold it to the stored answers of `cases`, `edges` and `runs` too.
 set -eu
 cd "$(dirname "$0")/.."
 said=$(sh tests/cargo.sh test 2>&1) || {

@@ -1,9 +1,11 @@
 -- The text that the book program prints, as ASCII: "a line for each record: record number from 1, refusal number or 0, available" (Figures to meet).
 use Prim.Native.Nat.{ℕ, zero, suc, _+_, _/_, _%_}
 use mathlib.Core.Bool.{cond}
-use mathlib.Core.List.{List, [], _∷_, _++_}
+use mathlib.Core.List.{List, [], _∷_, _++_, map}
 use lib.Dec.{ltb}
 use lib.IntN.{ℤ, pos, negsuc}
+use lib.ListN.{length}
+use Rattle.desk.specs.Runs.{bookRun}
 
 -- a digit as ASCII (house)
 abbrev pub digit : ℕ → ℕ
@@ -32,3 +34,9 @@ unfoldable pub linesFrom : ℕ → List ℕ → List ℤ → List ℕ
 linesFrom number [] sums = []
 linesFrom number (refusal ∷ refusals) [] = []
 linesFrom number (refusal ∷ refusals) (available ∷ sums) = lineOf number refusal available ++ linesFrom (suc number) refusals sums
+
+-- what is printed for a book's bytes; with a place for each byte no record goes without an answer (Figures to meet)
+unfoldable pub printedFor : List ℕ → List ℕ
+printedFor s =
+    let answers = bookRun (length s) s .answers in
+    linesFrom 1 (map (λ answer. answer .0) answers) (map (λ answer. answer .1) answers)

@@ -5,6 +5,7 @@ use mathlib.Core.List.{List}
 use Prim.Native.Nat.{ℕ, zero, suc, _+_, _*_, _≤_}
 use native.Mathlib.Decide.{decLt}
 use native.Mathlib.Omega.{arith}
+use lib.Dec.{ltb}
 use lib.ListN.{length, drop}
 use Rattle.reading.specs.Reading.{readAt}
 use Rattle.set_up.specs.declared.stages.Book.{Book}
@@ -48,3 +49,18 @@ enough places others s b few fewer =
     sym (more-change-nothing places others s 0 b (omega (arith, few)))
     ∙ ap (λ (n : ℕ). runFrom n s 0 b) same
     ∙ more-change-nothing others places s 0 b (omega (arith, fewer))
+
+-- and a run gives no more answers than there are places
+pub few-answers : (places : ℕ) (s : List ℕ) (place : ℕ) (b : Book) → length (runFrom places s place b .answers) ≤ places
+unfolding runFrom
+few-answers zero s place b = omega arith
+few-answers (suc places) s place b =
+    let answer = answerTo b (readAt s place) in
+    go (ltb place (length s)) (answer .ends) (few-answers places s (place + answer .length) (answer .book))
+  where
+    go : (there ends : Bool) → length (runFrom places s (place + answerTo b (readAt s place) .length) (answerTo b (readAt s place) .book) .answers) ≤ places
+        → let answer = answerTo b (readAt s place) in
+        length (cond there (answer before cond ends (ended place (answer .book)) (runFrom places s (place + answer .length) (answer .book))) (ended place b) .answers) ≤ suc places
+    go false ends few = omega arith
+    go true true few = omega arith
+    go true false few = omega (arith, few)

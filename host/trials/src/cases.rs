@@ -89,7 +89,7 @@ fn allowed(words: &Words) -> Option<String> {
 }
 
 /// Lent bytes, two digits each; `-` is none.
-fn bytes(text: &str) -> Option<Vec<u8>> {
+pub(crate) fn bytes(text: &str) -> Option<Vec<u8>> {
     let digits = if text == "-" { "" } else { text };
     let byte = |at| u8::from_str_radix(digits.get(at..at + 2)?, 16).ok();
     (0..digits.len()).step_by(2).map(byte).collect()

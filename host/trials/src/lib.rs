@@ -5,6 +5,7 @@ pub mod chance;
 pub mod edges;
 pub mod making;
 pub mod ordering;
+pub mod runs;
 pub mod tables;
 
 use edges::Edges;
@@ -51,10 +52,9 @@ fn day_end(n: u16, m: u16, figure: impl Fn(usize) -> Option<u32>) -> Entry {
 /// The line again, with ` = ` and the answer where it asks something.
 pub fn answered(edges: &mut Edges, line: &str) -> String {
     let words = Words::of(line);
-    let answer = match cases::answer(&words) {
-        Some(answer) => Some(answer),
-        None => edges.answer(&words),
-    };
+    let answer = cases::answer(&words)
+        .or_else(|| runs::answer(&words))
+        .or_else(|| edges.answer(&words));
     match answer {
         Some(answer) => format!("{line} = {answer}"),
         None => line.to_string(),

@@ -1,4 +1,5 @@
-//! The stored answers of `cases` and `edges` come out of `plain` too; lines of `edges` by hand; and random lines reach every refusal.
+//! The stored answers of `cases`, `edges` and `runs` come out of `plain` too; lines of the last two by hand; and random lines reach every
+//! refusal.
 
 use std::collections::BTreeSet;
 use trials::answered;
@@ -34,6 +35,11 @@ fn stored_edges() {
 }
 
 #[test]
+fn stored_runs() {
+    answers_are_those_stored("runs");
+}
+
+#[test]
 fn edges_by_hand() {
     let mut edges = Edges::new();
     for line in [
@@ -51,6 +57,27 @@ fn edges_by_hand() {
     ] {
         let asked = line.split(" = ").next().unwrap();
         assert_eq!(answered(&mut edges, asked), line);
+    }
+}
+
+/// A deposit of 1, and what is in the first place of each array; nothing is written into the others.
+#[test]
+fn runs_by_hand() {
+    let (numbers, sums) = (" 255".repeat(15), " 7".repeat(15));
+    for (asked, told, number, sum) in [
+        ("book 2 2", "0 1 12 1 0 0", 5, 0),
+        ("book 2 0", "0 0 0 1 0 0", 255, 7),
+        ("list 0 600000 2 2", "0 1 12 3 3 5", 0, 600_001),
+        ("list 0 600000 0 2", "0 0 0 3 3 5", 255, 7),
+        ("list 1 1000000000000001 2 2", "4 0 0 2 8 64", 255, 7),
+        ("list 2 1000000000000001 2 2", "5 0 0 2 3 0", 255, 7),
+        ("change 2 0 41 1 600000 2 2", "4 0 0 2 8 65", 255, 7),
+        ("change 3 2 0 0 600000 2 2", "4 0 0 2 3 5", 255, 7),
+        ("change 3 3 0 0 600000 2 2", "0 1 12 3 3 5", 0, 600_001),
+    ] {
+        let asked = format!("{asked} 0c0001000100000000000000");
+        let expected = format!("{asked} = {told} n {number}{numbers} s {sum}{sums}");
+        assert_eq!(answered(&mut Edges::new(), &asked), expected);
     }
 }
 
