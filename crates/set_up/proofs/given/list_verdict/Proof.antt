@@ -71,8 +71,8 @@ list-verdict-spec =
     (tie.spec
     (λ c. no-contract _ _ (c .if1 .taken))
     (λ c. by-count _ _ (c .before .if1 .left) true (c .if2 .taken))
-    (λ c κs. few (c .before .before) .0)
-    (λ c κs. few (c .before .before .before) .1)
+    (λ c κs. omega (arith, few (c .before .before)))
+    (λ c κs. omega (arith, few (c .before .before .before)))
     (λ c κs. tt)
     (λ c. tested (c .before) true (c .if3 .taken))
     (λ c. tested (c .before) false (c .if3 .left)))
