@@ -32,6 +32,13 @@ impl Book {
         }
     }
 
+    pub fn tables(&self) -> &Tables {
+        match self {
+            Book::SettingUp(tables) => tables,
+            Book::Open(desk) => &desk.tables,
+        }
+    }
+
     /// 0 before the opening.
     pub fn available(&self) -> i64 {
         match self {

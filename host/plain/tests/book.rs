@@ -7,6 +7,7 @@ use plain::program::{printed, MOST_READ};
 use plain::record::{read, write, written};
 use plain::terms::{Class, Contract, Kind, Right, Underlying};
 use plain::worked;
+use std::slice;
 
 fn worked_book() -> Vec<u8> {
     written(&worked::entries()).unwrap()
@@ -21,7 +22,7 @@ fn figures_to_meet() {
 #[test]
 fn written_records_are_read_again() {
     for entry in worked::entries() {
-        let record = written(&[entry.clone()]).unwrap();
+        let record = written(slice::from_ref(&entry)).unwrap();
         assert_eq!(write(&entry, &mut [0; 300]), Ok(record.len()));
         assert_eq!(read(&record, 0), Ok((entry, record.len())));
     }

@@ -42,7 +42,7 @@ impl Default for Edges {
     }
 }
 
-fn entry(words: &Words) -> Option<Entry> {
+pub(crate) fn entry(words: &Words) -> Option<Entry> {
     Some(match words.first() {
         "deposit" => Entry::Deposit {
             amount: words.number(1)?,
