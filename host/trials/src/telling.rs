@@ -81,9 +81,10 @@ fn cuts_of_the_worked_book() -> impl Iterator<Item = Telling> {
         let whole = ends.iter().filter(|&&end| end <= size).count();
         let start = if whole == 0 { 0 } else { ends[whole - 1] };
         let available = rows[..whole].last().map_or(0, |row| row.2);
-        let cut: &[(u8, i64)] = if start < size { &[(1, available)] } else { &[] };
+        let cut = usize::from(start < size);
+        let answers = &[(1, available)][..cut];
         let name = format!("the worked book's first {size} bytes");
-        told_with(&name, &rows[..whole], &bytes[start..size], cut)
+        told_with(&name, &rows[..whole], &bytes[start..size], answers)
     })
 }
 
