@@ -27,14 +27,14 @@ pub fn books() -> Vec<Telling> {
     books
 }
 
-/// A record, with the verdict and the available sum behind it.
+/// A record, its verdict, and what is available after it.
 type Row = (Entry, u8, i64);
 
 fn told(name: &str, rows: &[Row]) -> Telling {
     told_with(name, rows, &[], &[])
 }
 
-/// Behind the rows come bytes that are no whole records, with their answers.
+/// After the rows come bytes that are no whole records, with the answers that are left to give.
 fn told_with(name: &str, rows: &[Row], behind: &[u8], answers: &[(u8, i64)]) -> Telling {
     let entries: Vec<Entry> = rows.iter().map(|(entry, ..)| entry.clone()).collect();
     let mut bytes = written(&entries).expect("day ends here are in range");

@@ -49,13 +49,15 @@ const fn contract(right: u8) -> [u8; 20] {
 }
 
 /// With these bytes a book ends: which refusal comes first.
-const LAST: [Ending; 8] = [
+const LAST: [Ending; 10] = [
     ("three bytes of no kind", 1, &[8, 0, 9]),
     ("four bytes of no kind", 2, &[200, 0, 9, 0]),
     ("four bytes of a wrong length", 3, &[9, 0, 7, 0]),
     ("four bytes of a right length", 1, &[8, 0, 7, 0]),
     ("a day end with no counts", 1, &[16, 0, 8, 0, 0, 0, 0]),
-    ("a wrong day end with no counts", 3, &[18, 0, 8, 0]),
+    ("18 bytes, with no counts", 3, &[18, 0, 8, 0]),
+    ("12 bytes, with no counts", 3, &[12, 0, 8, 0]),
+    ("300 bytes, with no counts", 3, &[44, 1, 8, 0]),
     ("a day end with wrong counts", 3, &[16, 0, 8, 0, 0, 0, 1, 0]),
     (
         "a wrong code, cut",

@@ -12,6 +12,7 @@ pub fn books() -> Vec<Telling> {
         misplaced("with an underlying", 1, [days(), openings()].concat()),
         misplaced("with a contract", 2, [days(), underlyings()].concat()),
         contract_with_no_underlying(),
+        ranges(),
         next_underlying(),
         next_underlying_but_one(),
         next_contract(),
@@ -78,13 +79,42 @@ fn contract_with_no_underlying() -> Telling {
     told("a contract with no underlying", &rows)
 }
 
+/// Values at the ends of their ranges, and one past them. The day end has the counts of what was accepted.
+fn ranges() -> Telling {
+    let row = |close, limits| Entry::Underlying(Underlying::new(Class::Stock, close, limits));
+    told(
+        "values at the ends of their ranges and past them",
+        &[
+            (row(1, [0; 3]), 0, 0),
+            (row(10_000_000, [10_000; 3]), 0, 0),
+            (row(0, [0; 3]), 4, 0),
+            (row(10_000_001, [0; 3]), 4, 0),
+            (row(1, [10_001, 0, 0]), 4, 0),
+            (row(1, [0, 10_001, 0]), 4, 0),
+            (row(1, [0, 0, 10_001]), 4, 0),
+            (put(1, [1, 100, 0]), 0, 0),
+            (call(0, [10_000_000, 100_000, 10_000_000]), 0, 0),
+            (call(2, [1, 100, 0]), 4, 0),
+            (call(0, [0, 100, 0]), 4, 0),
+            (call(0, [10_000_001, 100, 0]), 4, 0),
+            (call(0, [1, 0, 0]), 4, 0),
+            (call(0, [1, 99, 0]), 4, 0),
+            (call(0, [1, 150, 0]), 4, 0),
+            (call(0, [1, 100_001, 0]), 4, 0),
+            (call(0, [1, 100_100, 0]), 4, 0),
+            (call(0, [1, 100, 10_000_001]), 4, 0),
+            (opening(0), 0, 0),
+            (day_end(&[0, 10_000_000], &[1, 10_000_000]), 0, 0),
+        ],
+    )
+}
+
 /// Number 0 is the stock: a contract there has the margin of case f, and would have 850,000 on a fund.
 fn next_underlying() -> Telling {
     told(
         "a refused underlying takes no number",
         &[
             (fund(0), 4, 0),
-            (fund(10_000_001), 4, 0),
             (stock(100_000), 0, 0),
             (call(1, [100_000, 5_000, 5_000]), 4, 0),
             (call(0, [100_000, 5_000, 5_000]), 0, 0),
@@ -98,14 +128,11 @@ fn next_underlying() -> Telling {
 
 /// Number 1 is the fund: the margins are those of cases f and a.
 fn next_underlying_but_one() -> Telling {
-    let limits = |limits| Entry::Underlying(Underlying::new(Class::Stock, 1, limits));
     told(
         "a refused second underlying takes no number",
         &[
             (stock(100_000), 0, 0),
-            (limits([10_001, 0, 0]), 4, 0),
-            (limits([0, 10_001, 0]), 4, 0),
-            (limits([0, 0, 10_001]), 4, 0),
+            (stock(0), 4, 0),
             (fund(25_000), 0, 0),
             (call_a(2), 4, 0),
             (call_a(1), 0, 0),
@@ -123,10 +150,8 @@ fn next_contract() -> Telling {
         "a refused contract takes no number",
         &[
             (fund(25_000), 0, 0),
-            (call(0, [0, 10_000, 500]), 4, 0),
             (call(0, [26_000, 10_050, 500]), 4, 0),
             (put(0, [24_000, 10_000, 400]), 0, 0),
-            (call(0, [26_000, 100_100, 500]), 4, 0),
             (call(0, [26_000, 10_000, 10_000_001]), 4, 0),
             (call_a(0), 0, 0),
             (opening(600_000), 0, 600_000),
