@@ -74,9 +74,10 @@ pub struct Desk {
 }
 
 impl Desk {
-    /// An opening on tables that are in range.
+    /// An opening: with no contract it is out of its place, and then every value is to be in its range.
     pub fn open(tables: &Tables, cash: u64) -> Result<Desk, u8> {
-        require(within(cash, OPENING_CASH), 4)?;
+        require(!tables.contracts.is_empty(), 5)?;
+        require(tables.allowed() && within(cash, OPENING_CASH), 4)?;
         Ok(Desk {
             tables: tables.clone(),
             account: Account {

@@ -35,6 +35,26 @@ pub enum Entry {
     },
 }
 
+impl Entry {
+    pub fn order(number: u32, contract: u16, kind: Kind, quantity: u32, price: u32) -> Entry {
+        Entry::Order(Order {
+            number,
+            contract,
+            kind,
+            quantity,
+            price,
+        })
+    }
+
+    pub fn fill(number: u32, quantity: u32, price: u32) -> Entry {
+        Entry::Fill(Fill {
+            number,
+            quantity,
+            price,
+        })
+    }
+}
+
 /// As an order rests, its quantity is what is left of it.
 #[derive(Clone, Copy, Debug, PartialEq, Eq)]
 pub struct Order {

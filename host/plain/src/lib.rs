@@ -3,10 +3,12 @@
 pub mod account;
 pub mod book;
 pub mod entry;
+pub mod program;
 pub mod record;
 pub mod rules;
 pub mod step;
 pub mod terms;
+pub mod worked;
 
 /// Passes on, or gives the paper's refusal number.
 pub fn require(met: bool, refusal: u8) -> Result<(), u8> {

@@ -36,7 +36,7 @@ fn length_fits(kind: u16, length: usize) -> Result<(), u8> {
     require(fits, 3)
 }
 
-fn day_end_length(n: usize, m: usize) -> usize {
+const fn day_end_length(n: usize, m: usize) -> usize {
     8 + 4 * n + 4 * m
 }
 
@@ -155,6 +155,17 @@ pub fn write(entry: &Entry, buffer: &mut [u8]) -> Result<usize, u8> {
         *place = byte;
     }
     Ok(length)
+}
+
+/// The records of these entries, one behind the other. No record is longer than that of the longest day end.
+pub fn written(entries: &[Entry]) -> Result<Vec<u8>, u8> {
+    let mut bytes = Vec::new();
+    for entry in entries {
+        let mut buffer = [0; day_end_length(64, 8)];
+        let length = write(entry, &mut buffer)?;
+        bytes.extend_from_slice(&buffer[..length]);
+    }
+    Ok(bytes)
 }
 
 /// A field of a record: its width in bytes and its value.

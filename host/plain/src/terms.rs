@@ -112,6 +112,16 @@ pub struct Underlying {
 }
 
 impl Underlying {
+    pub fn new(class: Class, close: u32, [rights, total, daily]: [u16; 3]) -> Underlying {
+        Underlying {
+            class,
+            close,
+            rights,
+            total,
+            daily,
+        }
+    }
+
     pub fn allowed(&self) -> bool {
         let limits = [self.rights, self.total, self.daily];
         within(self.close, PRICE) && limits.iter().all(|&limit| within(limit, LIMIT))
@@ -128,12 +138,23 @@ pub struct Contract {
 }
 
 impl Contract {
+    pub fn new(underlying: u16, right: Right, [strike, unit, settlement]: [u32; 3]) -> Contract {
+        Contract {
+            underlying,
+            right,
+            strike,
+            unit,
+            settlement,
+        }
+    }
+
     /// Whether its own figures are in range; that its underlying exists is the tables' matter.
     pub fn allowed(&self) -> bool {
         within(self.strike, PRICE) && unit_allowed(self.unit) && within(self.settlement, SETTLEMENT)
     }
 }
 
+/// A count is how many rows there are: what someone keeps behind its rows is no part of the tables.
 #[derive(Clone, Debug, Default, PartialEq, Eq)]
 pub struct Tables {
     pub underlyings: Vec<Underlying>,
@@ -141,6 +162,20 @@ pub struct Tables {
 }
 
 impl Tables {
+    /// Whether counts and rows are in range, and every contract is on one of the underlyings. Tables that are being filled may have
+    /// no row yet.
+    pub fn allowed(&self) -> bool {
+        let (underlyings, contracts) = (self.underlyings.len(), self.contracts.len());
+        let listed = |contract: &Contract| usize::from(contract.underlying) < underlyings;
+        underlyings as u64 <= *UNDERLYINGS.end()
+            && contracts as u64 <= *CONTRACTS.end()
+            && self.underlyings.iter().all(Underlying::allowed)
+            && self
+                .contracts
+                .iter()
+                .all(|row| row.allowed() && listed(row))
+    }
+
     pub fn underlying_of(&self, contract: &Contract) -> &Underlying {
         &self.underlyings[usize::from(contract.underlying)]
     }

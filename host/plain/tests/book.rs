@@ -1,106 +1,79 @@
-//! The worked book of "Figures to meet", written as records and run; and a day end that leaves less than nothing.
+//! The worked book of "Figures to meet", run whole, cut and place by place; and a day end that leaves less than nothing.
 
 use plain::account::Desk;
-use plain::book::{run, Book};
-use plain::entry::{Entry, Fill, Order};
-use plain::record::{read, write};
+use plain::book::{run_book, Book};
+use plain::entry::Entry;
+use plain::program::{printed, MOST_READ};
+use plain::record::{read, write, written};
 use plain::terms::{Class, Contract, Kind, Right, Underlying};
+use plain::worked;
+use std::slice;
 
-fn fund(close: u32) -> Entry {
-    Entry::Underlying(Underlying {
-        class: Class::Fund,
-        close,
-        rights: 20,
-        total: 50,
-        daily: 100,
-    })
-}
-
-fn call(strike: u32, unit: u32, settlement: u32) -> Entry {
-    Entry::Contract(Contract {
-        underlying: 0,
-        right: Right::Call,
-        strike,
-        unit,
-        settlement,
-    })
-}
-
-fn order(number: u32, contract: u16, kind: Kind, quantity: u32, price: u32) -> Entry {
-    Entry::Order(Order {
-        number,
-        contract,
-        kind,
-        quantity,
-        price,
-    })
-}
-
-fn fill(number: u32, quantity: u32, price: u32) -> Entry {
-    Entry::Fill(Fill {
-        number,
-        quantity,
-        price,
-    })
-}
-
-fn day_end(settlements: &[u32], close: u32) -> Entry {
-    Entry::DayEnd {
-        settlements: settlements.to_vec(),
-        closes: vec![close],
-    }
-}
-
-fn worked_book() -> Vec<Entry> {
-    vec![
-        fund(25_000),
-        call(26_000, 10_000, 500),
-        Entry::Opening { cash: 600_000 },
-        order(1, 0, Kind::SellOpen, 2, 500),
-        fill(1, 1, 520),
-        order(2, 0, Kind::BuyClose, 2, 600),
-        order(2, 0, Kind::BuyClose, 1, 600),
-        fill(2, 1, 580),
-        Entry::Cancel { number: 1 },
-        day_end(&[300], 25_500),
-    ]
-}
-
-fn bytes_of(entries: &[Entry]) -> Vec<u8> {
-    let mut bytes = Vec::new();
-    for entry in entries {
-        let mut buffer = [0; 296];
-        let length = write(entry, &mut buffer).unwrap();
-        assert_eq!(read(&buffer, 0), Ok((entry.clone(), length)));
-        bytes.extend_from_slice(&buffer[..length]);
-    }
-    bytes
+fn worked_book() -> Vec<u8> {
+    written(&worked::entries()).unwrap()
 }
 
 #[test]
 fn figures_to_meet() {
-    let lines = [
-        (0, 0),
-        (0, 0),
-        (0, 600_000),
-        (0, 100_000),
-        (0, 152_000),
-        (9, 152_000),
-        (0, 92_000),
-        (0, 344_000),
-        (0, 594_000),
-        (0, 594_000),
-    ];
-    assert_eq!(run(&bytes_of(&worked_book())), lines);
-    assert_eq!(run(&[]), []);
+    assert_eq!(printed(&worked_book()), worked::LINES);
+    assert_eq!(printed(&[]), "");
+}
+
+#[test]
+fn written_records_are_read_again() {
+    for entry in worked::entries() {
+        let record = written(slice::from_ref(&entry)).unwrap();
+        assert_eq!(write(&entry, &mut [0; 300]), Ok(record.len()));
+        assert_eq!(read(&record, 0), Ok((entry, record.len())));
+    }
 }
 
 #[test]
 fn a_cut_record_ends_the_reading() {
-    let bytes = bytes_of(&worked_book());
-    let answers = run(&bytes[..bytes.len() - 1]);
-    assert_eq!(answers.len(), 10);
-    assert_eq!(answers[9], (1, 594_000));
+    let bytes = worked_book();
+    let cut = run_book(&bytes[..bytes.len() - 1], 10);
+    assert_eq!(cut.answers.len(), 10);
+    assert_eq!(cut.answers[9], (1, 594_000));
+    // The place of the record that could not be read, and the book as it was before it.
+    let before = run_book(&bytes, 9);
+    assert_eq!((cut.place, cut.book), (before.place, before.book));
+}
+
+#[test]
+fn bytes_past_the_most_are_not_read() {
+    let cancel = written(&[Entry::Cancel { number: 1 }]).unwrap();
+    let cancels = cancel.repeat(MOST_READ / cancel.len() + 1);
+    let last = "8192 5 0\n";
+    assert!(printed(&cancels).ends_with(last));
+    assert!(printed(&cancels[..MOST_READ]).ends_with(last));
+    assert!(printed(&cancels[..MOST_READ - 1]).ends_with("8192 1 0\n"));
+}
+
+/// As many places as there are records, fewer, and more.
+#[test]
+fn places() {
+    let entries = worked::entries();
+    let bytes = worked_book();
+    let whole = run_book(&bytes, entries.len());
+    assert_eq!(whole.place, bytes.len());
+    let mut book = Book::new();
+    for (places, entry) in entries.iter().enumerate() {
+        let run = run_book(&bytes, places);
+        assert_eq!(run.answers, whole.answers[..places]);
+        assert_eq!(run.place, written(&entries[..places]).unwrap().len());
+        assert_eq!(run.book, book);
+        let _ = book.step(entry);
+    }
+    assert_eq!(whole.book, book);
+    assert_eq!(run_book(&bytes, usize::MAX), whole);
+}
+
+fn fund(close: u32) -> Entry {
+    Entry::Underlying(Underlying::new(Class::Fund, close, [20, 50, 100]))
+}
+
+fn call(figures: [u32; 3]) -> Entry {
+    Entry::Contract(Contract::new(0, Right::Call, figures))
 }
 
 /// Contract 1 is so far out of the money at a close of 1 that its margin rounds to nothing.
@@ -108,8 +81,8 @@ fn opened(cash: u64) -> Book {
     let mut book = Book::new();
     let setup = [
         fund(25_000),
-        call(26_000, 10_000, 500),
-        call(10_000_000, 100, 0),
+        call([26_000, 10_000, 500]),
+        call([10_000_000, 100, 0]),
         Entry::Opening { cash },
     ];
     for entry in setup {
@@ -129,15 +102,18 @@ fn desk(book: &Book) -> &Desk {
 fn below_zero_after_a_day_end() {
     let mut book = opened(600_000);
     for entry in [
-        order(1, 0, Kind::SellOpen, 2, 500),
-        fill(1, 2, 500),
-        day_end(&[3_501, 0], 1),
+        Entry::order(1, 0, Kind::SellOpen, 2, 500),
+        Entry::fill(1, 2, 500),
+        Entry::DayEnd {
+            settlements: vec![3_501, 0],
+            closes: vec![1],
+        },
     ] {
         assert_eq!(book.step(&entry), Ok(()));
     }
     // 700,000 in cash, and twice 10,000 x 350,107 / 10,000 as margin
     assert_eq!(book.available(), 700_000 - 2 * 350_107);
-    let free = order(2, 1, Kind::SellOpen, 1, 1);
+    let free = Entry::order(2, 1, Kind::SellOpen, 1, 1);
     let before = book.clone();
     assert_eq!(book.step(&free), Err(14));
     assert_eq!(book, before);
@@ -153,7 +129,41 @@ fn below_zero_after_a_day_end() {
 fn a_hold_equal_to_available_passes() {
     for (cash, verdict) in [(500_000, Ok(())), (499_999, Err(14))] {
         let mut book = opened(cash);
-        let step = book.step(&order(1, 0, Kind::SellOpen, 2, 500));
+        let step = book.step(&Entry::order(1, 0, Kind::SellOpen, 2, 500));
         assert_eq!(step, verdict);
     }
+}
+
+/// What is refused takes no number and moves the order of records on by nothing.
+#[test]
+fn set_up_goes_on_behind_a_refusal() {
+    let mut book = Book::new();
+    let opening = Entry::Opening { cash: 1 };
+    let contract = call([26_000, 10_000, 500]);
+    for (entry, verdict) in [
+        (&contract, Err(4)),
+        (&opening, Err(5)),
+        (&fund(0), Err(4)),
+        (&fund(25_000), Ok(())),
+        (&opening, Err(5)),
+        (&call([26_000, 10_050, 500]), Err(4)),
+        (&fund(1), Ok(())),
+        (&contract, Ok(())),
+        (&fund(1), Err(5)),
+        (&Entry::Deposit { amount: 1 }, Err(5)),
+        (
+            &Entry::Opening {
+                cash: 1_000_000_000_000_001,
+            },
+            Err(4),
+        ),
+        (&contract, Ok(())),
+        (&opening, Ok(())),
+        (&contract, Err(5)),
+        (&opening, Err(5)),
+    ] {
+        assert_eq!(book.step(entry), verdict, "{entry:?}");
+    }
+    let tables = &desk(&book).tables;
+    assert_eq!((tables.underlyings.len(), tables.contracts.len()), (2, 2));
 }

@@ -53,20 +53,8 @@ fn rows(
     unit: u32,
     (s, p, k): (u32, u32, u32),
 ) -> (Contract, Underlying) {
-    let contract = Contract {
-        underlying: 0,
-        right,
-        strike: k,
-        unit,
-        settlement: s,
-    };
-    let underlying = Underlying {
-        class,
-        close: p,
-        rights: 0,
-        total: 0,
-        daily: 0,
-    };
+    let contract = Contract::new(0, right, [k, unit, s]);
+    let underlying = Underlying::new(class, p, [0; 3]);
     (contract, underlying)
 }
 

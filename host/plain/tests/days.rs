@@ -1,24 +1,12 @@
 //! Covered opening, the daily count and the day end, on one account.
 
 use plain::account::{Desk, Holding, Position};
-use plain::entry::{Entry, Fill, Order};
+use plain::entry::Entry;
 use plain::terms::{Class, Contract, Kind, Right, Tables, Underlying};
 
 fn opened() -> Desk {
-    let underlying = Underlying {
-        class: Class::Fund,
-        close: 25_000,
-        rights: 20,
-        total: 50,
-        daily: 20,
-    };
-    let contract = Contract {
-        underlying: 0,
-        right: Right::Call,
-        strike: 26_000,
-        unit: 100,
-        settlement: 500,
-    };
+    let underlying = Underlying::new(Class::Fund, 25_000, [20, 50, 20]);
+    let contract = Contract::new(0, Right::Call, [26_000, 100, 500]);
     let tables = Tables {
         underlyings: vec![underlying],
         contracts: vec![contract],
@@ -27,21 +15,7 @@ fn opened() -> Desk {
 }
 
 fn order(number: u32, kind: Kind, quantity: u32) -> Entry {
-    Entry::Order(Order {
-        number,
-        contract: 0,
-        kind,
-        quantity,
-        price: 500,
-    })
-}
-
-fn fill(number: u32, quantity: u32, price: u32) -> Entry {
-    Entry::Fill(Fill {
-        number,
-        quantity,
-        price,
-    })
+    Entry::order(number, 0, kind, quantity, 500)
 }
 
 fn lock(units: u32) -> Entry {
@@ -67,7 +41,7 @@ fn covered_premium_waits_for_the_day_end() {
             (order(1, Kind::CoveredOpen, 3), Err(13)),
             (lock(2), Ok(())),
             (order(1, Kind::CoveredOpen, 3), Ok(())),
-            (fill(1, 2, 501), Ok(())),
+            (Entry::fill(1, 2, 501), Ok(())),
         ],
     );
     assert_eq!(desk.spare(0), 1);
@@ -100,11 +74,11 @@ fn a_close_gives_no_daily_room_back_and_a_cancel_does() {
         &mut desk,
         &[
             (order(1, Kind::BuyOpen, 15), Ok(())),
-            (fill(1, 10, 500), Ok(())),
+            (Entry::fill(1, 10, 500), Ok(())),
             (order(2, Kind::SellClose, 10), Ok(())),
             (order(3, Kind::SellClose, 1), Err(9)),
-            (fill(2, 10, 499), Err(16)),
-            (fill(2, 10, 500), Ok(())),
+            (Entry::fill(2, 10, 499), Err(16)),
+            (Entry::fill(2, 10, 500), Ok(())),
             (order(3, Kind::BuyOpen, 6), Err(12)),
             (Entry::Cancel { number: 1 }, Ok(())),
             (order(3, Kind::BuyOpen, 11), Err(12)),

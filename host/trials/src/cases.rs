@@ -28,20 +28,11 @@ fn charge(fen: Result<i64, u8>) -> String {
 
 /// Class, right, settlement, close, strike, unit.
 fn margin(words: &Words) -> Option<String> {
-    let underlying = Underlying {
-        class: Class::from_code(words.number(1)?)?,
-        close: words.number(4)?,
-        rights: 0,
-        total: 0,
-        daily: 0,
-    };
-    let contract = Contract {
-        underlying: 0,
-        right: Right::from_code(words.number(2)?)?,
-        strike: words.number(5)?,
-        unit: words.number(6)?,
-        settlement: words.number(3)?,
-    };
+    let class = Class::from_code(words.number(1)?)?;
+    let right = Right::from_code(words.number(2)?)?;
+    let underlying = Underlying::new(class, words.number(4)?, [0; 3]);
+    let figures = [words.number(5)?, words.number(6)?, words.number(3)?];
+    let contract = Contract::new(0, right, figures);
     Some(charge(rules::margin(&contract, &underlying)))
 }
 

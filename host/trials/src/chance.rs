@@ -12,6 +12,11 @@ impl Chance {
         Chance(chance.draw())
     }
 
+    /// Numbers of its own for another use.
+    pub fn fork(&mut self) -> Chance {
+        Chance(self.draw())
+    }
+
     pub fn draw(&mut self) -> u64 {
         self.0 = self.0.wrapping_add(STEP);
         let mut mixed = self.0;

@@ -42,7 +42,7 @@ impl Default for Edges {
     }
 }
 
-fn entry(words: &Words) -> Option<Entry> {
+pub(crate) fn entry(words: &Words) -> Option<Entry> {
     Some(match words.first() {
         "deposit" => Entry::Deposit {
             amount: words.number(1)?,
@@ -82,20 +82,8 @@ fn entry(words: &Words) -> Option<Entry> {
 /// A record of set-up by its kind; on an open account its values do not matter.
 fn set_up(kind: u16) -> Option<Entry> {
     Some(match kind {
-        16 => Entry::Underlying(Underlying {
-            class: Class::Fund,
-            close: 1,
-            rights: 0,
-            total: 0,
-            daily: 0,
-        }),
-        17 => Entry::Contract(Contract {
-            underlying: 0,
-            right: Right::Call,
-            strike: 1,
-            unit: 100,
-            settlement: 0,
-        }),
+        16 => Entry::Underlying(Underlying::new(Class::Fund, 1, [0; 3])),
+        17 => Entry::Contract(Contract::new(0, Right::Call, [1, 100, 0])),
         18 => Entry::Opening { cash: 0 },
         _ => return None,
     })

@@ -1,12 +1,19 @@
-//! Lines of worked examples: what a line asks, and the answer that `plain` gives. A line that asks nothing is a remark.
+//! Lines of worked examples: what a line asks, and the answer that `plain` gives. A line that asks nothing is a remark. And books, whose
+//! records `plain` answers too.
 
+pub mod booking;
 pub mod cases;
 pub mod chance;
+pub mod damaging;
 pub mod edges;
+pub mod examples;
 pub mod making;
 pub mod ordering;
 pub mod runs;
+pub mod setting_up;
 pub mod tables;
+pub mod telling;
+pub mod trial;
 
 use edges::Edges;
 use plain::entry::Entry;

@@ -25,20 +25,37 @@ pub struct Maker {
     focus: Vec<u16>,
     /// Lines that were decided on together with one already given.
     pub(crate) ahead: VecDeque<String>,
+    /// Tables as they are at an opening: the figures of a day end are near theirs.
+    known: Vec<Tables>,
+    /// Whether an opening line makes a new account.
+    pub(crate) reopens: bool,
 }
 
 impl Maker {
-    /// The first line is an opening.
+    /// Lines for `edges`: the first is an opening, and more of them follow.
     pub fn new(seed: u64, batch: u64) -> Maker {
-        let mut maker = Maker {
-            chance: Chance::new(seed, batch),
-            mood: Mood::Mixed,
-            focus: Vec::new(),
-            ahead: VecDeque::new(),
-        };
+        let known = vec![tables::small(), tables::full()];
+        let mut maker = Maker::knowing(known, Chance::new(seed, batch));
+        maker.reopens = true;
         let first = maker.opening();
         maker.ahead.push_back(first);
         maker
+    }
+
+    /// Lines for one account, opened on these tables.
+    pub fn on(tables: &Tables, chance: Chance) -> Maker {
+        Maker::knowing(vec![tables.clone()], chance)
+    }
+
+    fn knowing(known: Vec<Tables>, chance: Chance) -> Maker {
+        Maker {
+            chance,
+            mood: Mood::Mixed,
+            focus: Vec::new(),
+            ahead: VecDeque::new(),
+            known,
+            reopens: false,
+        }
     }
 
     pub fn line(&mut self, desk: &Desk) -> String {
@@ -74,17 +91,7 @@ impl Maker {
 
     pub(crate) fn opening(&mut self) -> String {
         self.focus.clear();
-        let below_ceiling = MONEY_CEILING - self.chance.between(1, 20_000_000_000);
-        let cash = match self.chance.weighted(&[4, 20, 40, 10, 18, 4, 4, 1]) {
-            0 => self.chance.between(0, 1),
-            1 => self.chance.between(1, 2_000_000),
-            2 => self.chance.between(1_000_000, 100_000_000),
-            3 => self.chance.between(1, MOST_TRANSFER),
-            4 => below_ceiling,
-            5 => MONEY_CEILING,
-            6 => MONEY_CEILING + 1,
-            _ => 999_999_999_999_999_999,
-        };
+        let cash = opening_cash(&mut self.chance);
         let tables = self.chance.pick(&["", "", " 0", " 1", " 1"]);
         format!("open {cash}{tables}")
     }
@@ -189,14 +196,12 @@ impl Maker {
     }
 
     fn day_end(&mut self, desk: &Desk) -> String {
-        let full = desk.tables.contracts.len() == 64;
-        let other = self.chance.percent(3);
-        let base = if full != other {
-            tables::full()
-        } else {
-            tables::small()
-        };
-        let (n, m) = (base.contracts.len(), base.underlyings.len());
+        let counts = |tables: &Tables| (tables.contracts.len(), tables.underlyings.len());
+        let own = |known: &Tables| counts(known) == counts(&desk.tables);
+        let own = self.known.iter().position(own).unwrap_or(0);
+        let other = usize::from(self.chance.percent(3));
+        let base = self.known[(own + other) % self.known.len()].clone();
+        let (n, m) = counts(&base);
         let mut figures = self.figures(&base);
         let (n, m) = self.spoiled(n, m, &mut figures);
         let figures: String = figures.iter().map(|figure| format!(" {figure}")).collect();
@@ -256,5 +261,20 @@ impl Maker {
             _ => self.chance.pick(&[least, least, least, MOST_PRICE]),
         };
         settlements.chain(closes).map(figure).collect()
+    }
+}
+
+/// Up to the most that an opening may have, and past it.
+pub(crate) fn opening_cash(chance: &mut Chance) -> i64 {
+    let below_ceiling = MONEY_CEILING - chance.between(1, 20_000_000_000);
+    match chance.weighted(&[4, 20, 40, 10, 18, 4, 4, 1]) {
+        0 => chance.between(0, 1),
+        1 => chance.between(1, 2_000_000),
+        2 => chance.between(1_000_000, 100_000_000),
+        3 => chance.between(1, MOST_TRANSFER),
+        4 => below_ceiling,
+        5 => MONEY_CEILING,
+        6 => MONEY_CEILING + 1,
+        _ => 999_999_999_999_999_999,
     }
 }

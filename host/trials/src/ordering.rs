@@ -77,7 +77,7 @@ impl Maker {
 
     fn order_number(&mut self, desk: &Desk) -> u32 {
         let last = desk.account.last;
-        match self.chance.weighted(&[940, 20, 40, 1]) {
+        match self.chance.weighted(&[940, 20, 40, self.reopens.into()]) {
             0 => last.saturating_add(1),
             1 => last.saturating_add(self.chance.between(1, 300) as u32),
             2 => self.used_number(desk),

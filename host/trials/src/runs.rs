@@ -1,10 +1,7 @@
 //! The lines of `runs`: a book or a list, run into as many lent places as the line says.
 
 use crate::{cases, tables, Words};
-use plain::book::Book;
-use plain::entry::Entry;
-use plain::record::read;
-use plain::require;
+use plain::book::{run_book, run_list, Book, Run};
 use plain::terms::{Class, Contract, Right, Tables, Underlying, CONTRACTS, UNDERLYINGS};
 use std::ops::RangeInclusive;
 
@@ -18,7 +15,8 @@ pub fn answer(words: &Words) -> Option<String> {
     match words.first() {
         "book" => {
             let (bytes, lent) = (cases::bytes(words.text(3)?)?, Lent::of(words, 1)?);
-            Some(run(Book::new(), &bytes, lent))
+            let run = run_book(&bytes, lent.places());
+            Some(lent.told(&run))
         }
         "list" => list(&Given::named(words, 1)?, words, 2),
         "change" => list(&changed(words)?, words, 5),
@@ -31,11 +29,13 @@ fn list(given: &Given, words: &Words, from: usize) -> Option<String> {
     let cash = words.number(from)?;
     let lent = Lent::of(words, from + 1)?;
     let bytes = cases::bytes(words.text(from + 3)?)?;
-    Some(match given.opened(cash) {
-        Ok(book) => run(book, &bytes, lent),
-        // Then nothing is run, and the tables still wait for their opening.
-        Err(refusal) => shown(refusal, 0, 0, (2, given.m, given.n), &lent),
-    })
+    Some(
+        match run_list(&given.tables(), cash, &bytes, lent.places()) {
+            Ok(run) => lent.told(&run),
+            // Then nothing is run, and the tables still wait for their opening.
+            Err(refusal) => lent.shown(refusal, 0, 0, (2, given.m, given.n)),
+        },
+    )
 }
 
 /// A list's tables: any counts, and the rows of both arrays. Those past the counts are no part of the tables.
@@ -90,47 +90,27 @@ impl Given {
         }
     }
 
-    /// Judged as the records of set-up would be, each row in its turn; with no contract it is 5, which stands before 4.
-    fn opened(&self, cash: u64) -> Result<Book, u8> {
-        require(self.n != 0, 5)?;
-        let underlyings = first(&self.underlyings, self.m)?;
-        let contracts = first(&self.contracts, self.n)?;
-        let mut book = Book::new();
-        for row in underlyings {
-            book.step(&Entry::Underlying(row.clone()))?;
+    fn tables(&self) -> Tables {
+        Tables {
+            underlyings: first(&self.underlyings, self.m, no_underlying()),
+            contracts: first(&self.contracts, self.n, no_contract()),
         }
-        for row in contracts {
-            book.step(&Entry::Contract(row.clone()))?;
-        }
-        book.step(&Entry::Opening { cash })?;
-        Ok(book)
     }
 }
 
-/// More rows than there are places for is 4.
-fn first<T>(rows: &[T], count: u64) -> Result<&[T], u8> {
-    let count = usize::try_from(count).map_err(|_| 4)?;
-    rows.get(..count).ok_or(4)
+/// As many rows as are counted; of more than there is room for, one too many.
+fn first<T: Clone>(rows: &[T], count: u64, none: T) -> Vec<T> {
+    let beyond = std::iter::once(none);
+    let count = usize::try_from(count).unwrap_or(usize::MAX);
+    rows.iter().cloned().chain(beyond).take(count).collect()
 }
 
 fn no_underlying() -> Underlying {
-    Underlying {
-        class: Class::Stock,
-        close: 0,
-        rights: 0,
-        total: 0,
-        daily: 0,
-    }
+    Underlying::new(Class::Stock, 0, [0; 3])
 }
 
 fn no_contract() -> Contract {
-    Contract {
-        underlying: 0,
-        right: Right::Call,
-        strike: 0,
-        unit: 0,
-        settlement: 0,
-    }
+    Contract::new(0, Right::Call, [0; 3])
 }
 
 /// What is changed, the row, the value, the tables. The counts are hexadecimal; of another value what its field can hold is taken.
@@ -162,48 +142,41 @@ impl Lent {
             for_sums: words.number::<usize>(place + 1)?.min(PLACES),
         })
     }
-}
 
-/// Record after record, as long as there is a place for both parts of its answer; 1, 2 or 3 ends the run.
-fn run(mut book: Book, bytes: &[u8], mut lent: Lent) -> String {
-    let places = lent.for_numbers.min(lent.for_sums);
-    let (mut answered, mut place) = (0, 0);
-    while answered < places && place < bytes.len() {
-        let found = read(bytes, place);
-        let verdict = match &found {
-            Ok((entry, _)) => book.step(entry).err().unwrap_or(0),
-            Err(refusal) => *refusal,
-        };
-        lent.numbers[answered] = verdict;
-        lent.sums[answered] = book.available();
-        answered += 1;
-        match found {
-            Ok((_, length)) => place += length,
-            Err(_) => break,
-        }
+    /// An answer takes a place of each.
+    fn places(&self) -> usize {
+        self.for_numbers.min(self.for_sums)
     }
-    shown(0, answered, place, stage(&book), &lent)
+
+    fn told(mut self, run: &Run) -> String {
+        for (place, (number, sum)) in run.answers.iter().enumerate() {
+            self.numbers[place] = *number;
+            self.sums[place] = *sum;
+        }
+        self.shown(0, run.answers.len(), run.place, stage(&run.book))
+    }
+
+    fn shown(
+        &self,
+        verdict: u8,
+        answered: usize,
+        place: usize,
+        (stage, m, n): (u8, u64, u64),
+    ) -> String {
+        let numbers: String = self.numbers.iter().map(|n| format!(" {n}")).collect();
+        let sums: String = self.sums.iter().map(|sum| format!(" {sum}")).collect();
+        format!("{verdict} {answered} {place} {stage} {m} {n} n{numbers} s{sums}")
+    }
 }
 
 /// 1 before the first contract, 2 before the opening, then 3; and how many underlyings and contracts there are.
 fn stage(book: &Book) -> (u8, u64, u64) {
-    let (stage, tables) = match book {
-        Book::SettingUp(tables) if tables.contracts.is_empty() => (1, tables),
-        Book::SettingUp(tables) => (2, tables),
-        Book::Open(desk) => (3, &desk.tables),
-    };
+    let tables = book.tables();
     let (m, n) = (tables.underlyings.len(), tables.contracts.len());
+    let stage = match book {
+        Book::SettingUp(_) if n == 0 => 1,
+        Book::SettingUp(_) => 2,
+        Book::Open(_) => 3,
+    };
     (stage, m as u64, n as u64)
-}
-
-fn shown(
-    verdict: u8,
-    answered: usize,
-    place: usize,
-    (stage, m, n): (u8, u64, u64),
-    lent: &Lent,
-) -> String {
-    let numbers: String = lent.numbers.iter().map(|n| format!(" {n}")).collect();
-    let sums: String = lent.sums.iter().map(|sum| format!(" {sum}")).collect();
-    format!("{verdict} {answered} {place} {stage} {m} {n} n{numbers} s{sums}")
 }

@@ -2,40 +2,20 @@
 
 use plain::terms::{Class, Contract, Right, Tables, Underlying};
 
-fn underlying(class: Class, close: u32, [rights, total, daily]: [u16; 3]) -> Underlying {
-    Underlying {
-        class,
-        close,
-        rights,
-        total,
-        daily,
-    }
-}
-
-fn contract(underlying: u16, right: Right, [strike, unit, settlement]: [u32; 3]) -> Contract {
-    Contract {
-        underlying,
-        right,
-        strike,
-        unit,
-        settlement,
-    }
-}
-
 /// A fund and a stock with near limits, and a fund whose margin is a few fen.
 pub fn small() -> Tables {
     Tables {
         underlyings: vec![
-            underlying(Class::Fund, 25_000, [20, 50, 30]),
-            underlying(Class::Stock, 100_000, [10_000, 10_000, 100]),
-            underlying(Class::Fund, 50, [10_000, 10_000, 10_000]),
+            Underlying::new(Class::Fund, 25_000, [20, 50, 30]),
+            Underlying::new(Class::Stock, 100_000, [10_000, 10_000, 100]),
+            Underlying::new(Class::Fund, 50, [10_000, 10_000, 10_000]),
         ],
         contracts: vec![
-            contract(0, Right::Call, [26_000, 10_000, 500]),
-            contract(0, Right::Put, [24_000, 10_000, 400]),
-            contract(1, Right::Call, [100_000, 5_000, 5_000]),
-            contract(1, Right::Put, [100_000, 5_000, 5_000]),
-            contract(2, Right::Call, [53, 100, 0]),
+            Contract::new(0, Right::Call, [26_000, 10_000, 500]),
+            Contract::new(0, Right::Put, [24_000, 10_000, 400]),
+            Contract::new(1, Right::Call, [100_000, 5_000, 5_000]),
+            Contract::new(1, Right::Put, [100_000, 5_000, 5_000]),
+            Contract::new(2, Right::Call, [53, 100, 0]),
         ],
     }
 }
@@ -45,10 +25,10 @@ pub fn full() -> Tables {
     let row = |c: u32| {
         let right = if c < 32 { Right::Call } else { Right::Put };
         let figures = [20_000 + 300 * c, 100 * (1 + c), 10 * c];
-        contract((c % 8) as u16, right, figures)
+        Contract::new((c % 8) as u16, right, figures)
     };
     Tables {
-        underlyings: vec![underlying(Class::Fund, 30_000, [60, 90, 70]); 8],
+        underlyings: vec![Underlying::new(Class::Fund, 30_000, [60, 90, 70]); 8],
         contracts: (0..64).map(row).collect(),
     }
 }

@@ -1,13 +1,11 @@
 //! The stored answers of `cases`, `edges` and `runs` come out of `plain` too; lines of the last two by hand; and random lines reach every
 //! refusal.
 
+use plain::program::MOST_READ;
 use std::collections::BTreeSet;
 use trials::answered;
 use trials::edges::Edges;
 use trials::making::Maker;
-
-/// A program reads no more than this, and the lines behind it would go unasked.
-const MOST_READ: usize = 65_536;
 
 fn stored(program: &str, name: &str) -> String {
     let crates = concat!(env!("CARGO_MANIFEST_DIR"), "/../../crates");
@@ -17,6 +15,7 @@ fn stored(program: &str, name: &str) -> String {
 fn answers_are_those_stored(program: &str) {
     let mut edges = Edges::new();
     let (asked, expected) = (stored(program, "stdin"), stored(program, "stdout"));
+    // These programs read no more than the book program does: lines behind that would go unasked.
     assert!(asked.len() <= MOST_READ);
     assert_eq!(asked.lines().count(), expected.lines().count());
     for (line, expected) in asked.lines().zip(expected.lines()) {

@@ -1,0 +1,58 @@
+//! The books of `examples/`.
+
+use plain::entry::Entry;
+use plain::record::written;
+use plain::terms::{Class, Contract, Kind, Right, Underlying};
+use plain::worked;
+
+/// Each by its file's name.
+pub fn books() -> [(&'static str, Vec<u8>); 2] {
+    [("day.book", day()), ("refusals.book", refusals())]
+}
+
+fn day() -> Vec<u8> {
+    bytes(&worked::entries())
+}
+
+/// The last record, a cancel, has lost its last two bytes.
+fn refusals() -> Vec<u8> {
+    let mut bytes = bytes(&refused_now_and_then());
+    bytes.truncate(bytes.len() - 2);
+    bytes
+}
+
+fn bytes(entries: &[Entry]) -> Vec<u8> {
+    written(entries).expect("day ends here are in range")
+}
+
+fn refused_now_and_then() -> Vec<Entry> {
+    let fund = |close| Entry::Underlying(Underlying::new(Class::Fund, close, [5, 10, 8]));
+    let call = |unit| Entry::Contract(Contract::new(0, Right::Call, [26_000, unit, 500]));
+    vec![
+        fund(0),
+        fund(25_000),
+        Entry::Opening { cash: 600_000 },
+        call(10_050),
+        call(10_000),
+        Entry::Deposit { amount: 1_000 },
+        Entry::Opening { cash: 600_000 },
+        Entry::order(1, 0, Kind::BuyOpen, 6, 500),
+        Entry::order(1, 0, Kind::SellOpen, 3, 500),
+        Entry::order(1, 0, Kind::SellOpen, 2, 500),
+        Entry::order(1, 0, Kind::SellOpen, 1, 500),
+        Entry::fill(1, 3, 510),
+        Entry::fill(1, 2, 490),
+        Entry::fill(1, 2, 510),
+        Entry::Cancel { number: 1 },
+        Entry::order(2, 0, Kind::CoveredOpen, 1, 500),
+        Entry::DayEnd {
+            settlements: vec![4_000],
+            closes: vec![30_000],
+        },
+        Entry::Withdraw { amount: 1 },
+        Entry::order(2, 0, Kind::BuyClose, 1, 1),
+        Entry::Deposit { amount: 1_000_000 },
+        Entry::order(2, 0, Kind::BuyClose, 1, 1_000),
+        Entry::Cancel { number: 2 },
+    ]
+}
