@@ -4,9 +4,9 @@
 set -eu
 cd "$(dirname "$0")/.."
 asks=$(awk '
-    FNR == 1 { public = 0; step = FILENAME ~ /^crates\/(money|totals|gathering|orders|resting|fills|transfers|day_end|steps|edges)\// }
+    FNR == 1 { public = 0; step = FILENAME ~ /^crates\/(money|totals|gathering|orders|resting|fills|transfers|day_end|steps|set_up|edges)\// }
     /^ *(pub(\([a-z]+\))? )?(extern "C" )?fn / { public = /^ *pub / }
-    public && /^ *requires/ && !(step && /^ *requires \{ ⌜ (Sound tables account|SoundSheet sheet) ⌝ \}$/) { print FILENAME ":" FNR ": " $0 }
+    public && /^ *requires/ && !(step && /^ *requires \{ ⌜ (Sound tables account|SoundSheet sheet|SoundBook book) ⌝ \}$/) { print FILENAME ":" FNR ": " $0 }
 ' $(find crates -name '*.rt'))
 if [ -n "$asks" ]; then
     printf 'a public function with a requires:\n%s\n' "$asks"
