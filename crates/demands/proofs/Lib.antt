@@ -1,4 +1,5 @@
 -- What this product promises, as theorems over the crates' definitions and over the contracts generated from their functions.
+pub mod BooksTold
 pub mod DayEndLengths
 pub mod LentBuffer
 pub mod OneOutcome
@@ -8,6 +9,7 @@ pub mod Packing
 pub mod ReadBytes
 pub mod ReadWritten
 pub mod RecordsTold
+pub mod RunsTold
 pub mod Stepped
 pub mod Told
 pub mod WhatFollows

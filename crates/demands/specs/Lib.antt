@@ -3,4 +3,5 @@ pub mod InOrder
 pub mod Records
 pub mod Richer
 pub mod Says
+pub mod Staged
 pub mod WorkedCases

@@ -1,0 +1,46 @@
+-- What follows from how a run is made: the book is sound after every record, as one sees who lends so many places; a refused list leaves both slices as they were, and what a run does not answer it leaves alone.
+use mathlib.Core.Path.{_≡_, ap}
+use mathlib.Core.Bool.{Bool, true, false, cond}
+use mathlib.Core.List.{List, map}
+use Prim.Native.Nat.{ℕ, zero, suc, _+_}
+use lib.Dec.{ltb}
+use lib.IntN.{ℤ}
+use lib.ListN.{length, drop, length-map}
+use lib.Seq.{drop-at}
+use Rattle.terms.specs.declared.refusal.Refusal.{Refusal}
+use Rattle.reading.specs.Reading.{readAt}
+use Rattle.account.specs.declared.judged.Verdict.{Verdict}
+use Rattle.account.specs.declared.judged.Verdict.the-variants.{Refused}
+use Rattle.account.specs.declared.tables.Tables.{Tables}
+use Rattle.set_up.specs.Given.{listVerdict}
+use Rattle.set_up.specs.Sound.{SoundBook}
+use Rattle.set_up.specs.declared.stages.Book.{Book}
+use Rattle.desk.specs.Runs.{Ran, _before_, answerTo, ended, listBy, listRun, numbersLeft, runFrom, sumsLeft}
+use Rattle.desk.specs.declared.answer.Answered.{Answered}
+use Rattle.desk.proofs.Answered.{answer-sound}
+
+pub sound-after-each : (places : ℕ) (s : List ℕ) (place : ℕ) (b : Book) → SoundBook b → SoundBook (runFrom places s place b .book)
+unfolding runFrom
+sound-after-each zero s place b sound = sound
+sound-after-each (suc places) s place b sound =
+    let answer = answerTo b (readAt s place) in
+    let next = answer-sound b (readAt s place) sound in
+    go (ltb place (length s)) answer (answer .ends) next (sound-after-each places s (place + answer .length) (answer .book) next)
+  where
+    go : (there : Bool) (answer : Answered) (ends : Bool) → SoundBook (answer .book) → SoundBook (runFrom places s (place + answer .length) (answer .book) .book)
+        → SoundBook (cond there (answer before cond ends (ended place (answer .book)) (runFrom places s (place + answer .length) (answer .book))) (ended place b) .book)
+    go false answer ends next more = sound
+    go true answer true next more = next
+    go true answer false next more = more
+
+pub refused-list : (t : Tables) (cash places : ℕ) (s numbers : List ℕ) (sums : List ℤ) (why : Refusal) → listVerdict t cash ≡ Refused why
+    → (numbersLeft (listRun t cash places s) numbers ≡ numbers) × (sumsLeft (listRun t cash places s) sums ≡ sums)
+refused-list t cash places s numbers sums why e =
+    (ap (λ (v : Verdict). numbersLeft (listBy v t cash places s) numbers) e, ap (λ (v : Verdict). sumsLeft (listBy v t cash places s) sums) e)
+
+-- behind the answers everything is as it was lent
+pub beyond-answers : (r : Ran) (numbers : List ℕ) (sums : List ℤ) → let k = length (r .answers) in (drop k (numbersLeft r numbers) ≡ drop k numbers) × (drop k (sumsLeft r sums) ≡ drop k sums)
+beyond-answers r numbers sums = (
+  drop-at (map (λ answer. answer .0) (r .answers)) _ (length (r .answers)) (length-map (r .answers) (λ answer. answer .0)),
+  drop-at (map (λ answer. answer .1) (r .answers)) _ (length (r .answers)) (length-map (r .answers) (λ answer. answer .1)),
+)
