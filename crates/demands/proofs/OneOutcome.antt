@@ -20,6 +20,7 @@ use Rattle.fills.proofs.cancel.Reads as cancel
 use Rattle.day_end.proofs.day_end.Reads as day-end
 use Rattle.steps.proofs.step.Reads as step
 use Rattle.set_up.proofs.enter.Reads as enter
+use Rattle.set_up.proofs.list_verdict.Reads as list-verdict
 use Rattle.desk.proofs.run_list.Reads as run-list
 use Rattle.desk.proofs.run_book.Reads as run-book
 
@@ -76,6 +77,9 @@ step-one κs a r r' s s' p q = p ∙ sym q
 
 pub enter-one : (κs : _) (a : _) (r r' : _) (s s' : _) → enter.Post κs a r s → enter.Post κs a r' s' → r ≡ r'
 enter-one κs a r r' s s' p q = p ∙ sym q
+
+pub list-verdict-one : (κs : _) (a : _) (r r' : _) (s s' : _) → list-verdict.Post κs a r s → list-verdict.Post κs a r' s' → r ≡ r'
+list-verdict-one κs a r r' s s' p q = p ∙ sym q
 
 -- and both lent slices end in one way, the numbers and the sums
 pub run-list-one : (κs : _) (a : _) (r r' : _) (s s' : _) → run-list.Post κs a r s → run-list.Post κs a r' s'
