@@ -1,5 +1,4 @@
 // The answer to one record of a run.
-use account::Sheet;
 use account::Verdict;
 use money::available;
 use reading::Answer;
@@ -8,10 +7,9 @@ use set_up::Book;
 use set_up::Stage;
 use set_up::enter;
 ghost use mathlib.Core.Path.{_≡_};
-ghost use Rattle.account.specs.Sound.{SoundSheet};
 ghost use Rattle.account.specs.Verdicts.{numberIn};
 ghost use Rattle.set_up.specs.Sound.{SoundBook};
-ghost use Rattle.desk.specs.Runs.{answerTo, availableAt};
+ghost use Rattle.desk.specs.Runs.{answerTo, availableIn};
 
 // The refusal number or 0, and available; the book after the record. A record that could not be read has no length, and the run ends
 // with it.
@@ -34,29 +32,21 @@ pub(crate) fn answer_to(before: Book, reading: Reading) -> Answered
             let entered = enter(before, entry, figures);
             let verdict = entered.verdict;
             let book = entered.book;
-            let stage = book.stage;
-            let account = book.account;
-            let sheet = account.sheet;
             Answered {
                 number: number(verdict),
-                available: available_at(stage, sheet),
+                available: available_in(book),
                 ends: false,
                 length,
                 book,
             }
         }
-        Answer::Refused { why, place: _ } => {
-            let stage = before.stage;
-            let account = before.account;
-            let sheet = account.sheet;
-            Answered {
-                number: why.number(),
-                available: available_at(stage, sheet),
-                ends: true,
-                length: 0,
-                book: before,
-            }
-        }
+        Answer::Refused { why, place: _ } => Answered {
+            number: why.number(),
+            available: available_in(before),
+            ends: true,
+            length: 0,
+            book: before,
+        },
     }
 }
 
@@ -70,13 +60,18 @@ fn number(verdict: Verdict) -> u8
 }
 
 // 0 before the opening.
-fn available_at(stage: Stage, sheet: Sheet) -> i64
-    requires { ⌜ (stage ≡ Stage.Entries → SoundSheet sheet) ⌝ }
-    ensures { λ r. ⌜ r ≡ availableAt stage sheet ⌝ }
+fn available_in(book: Book) -> i64
+    requires { ⌜ SoundBook book ⌝ }
+    ensures { λ r. ⌜ r ≡ availableIn book ⌝ }
 {
+    let stage = book.stage;
     match stage {
         Stage::Underlyings => 0,
         Stage::Contracts => 0,
-        Stage::Entries => available(sheet),
+        Stage::Entries => {
+            let account = book.account;
+            let sheet = account.sheet;
+            available(sheet)
+        }
     }
 }

@@ -11,21 +11,15 @@ use Rattle.terms.specs.declared.refusal.Refusal.{Refusal}
 use Rattle.entries.specs.declared.entry.Entry.{Entry}
 use Rattle.reading.specs.declared.Answer.the-variants.{Found, Refused}
 use Rattle.reading.specs.declared.Reading.{Reading}
-use Rattle.account.specs.Sound.{SoundSheet}
 use Rattle.account.specs.Verdicts.{numberIn}
-use Rattle.account.proofs.Bounds.{sheet-sound}
 use Rattle.set_up.specs.Sound.{SoundBook}
 use Rattle.set_up.specs.Stages.{entered}
 use Rattle.set_up.specs.declared.stages.Book.{Book}
 use Rattle.set_up.specs.declared.stages.Entered.{Entered}
-use Rattle.set_up.specs.declared.stages.Stage.the-variants.{Entries}
 use Rattle.set_up.proofs.EnteredSound.{entered-sound}
 use Rattle.desk.specs.Runs.{answerBy, answerTo, availableIn}
 use Rattle.desk.proofs.answer.answer_to.Statement.{statement}
 use Rattle.desk.proofs.answer.answer_to.Tie as tie
-
-sheet-of : (b : Book) → SoundBook b → b .stage ≡ Entries → SoundSheet (b .account .sheet)
-sheet-of b sound stage = sheet-sound (sound .account stage)
 
 module _ (b : Book) (reading : Reading) (number : ℕ) (sum : ℤ) where
   found : (entry : Entry) (len : ℕ) (after : Entered)
@@ -49,23 +43,17 @@ module _ (b : Book) (reading : Reading) (number : ℕ) (sum : ℤ) where
   refused why place is numbers sums =
       (λ i. record { number = numbers i; available = sums i; ends = true; length = 0; book = b }) ∙ sym (ap (answerBy b (reading .figures)) is)
 
-available-at-requires : tie.Need-available-at-requires
-available-at-requires c κs =
-    let after = c .before .before .before .before in
-    let start = after .before .before .before .before .before in
-    sheet-of _ (subst (λ (x : Entered). SoundBook (x .book)) (sym (after .enter .ensures)) (entered-sound _ _ _ (start .pre)))
-
 returns : tie.Need-returns
 returns c =
-    let after = c .before .before .before .before .before in
+    let after = c .before .before .before in
     found _ _ _ _ _ _ _ (after .before .before .answer .given .1) (after .enter .ensures) (c .before .number .ensures)
-    (toZ-ofZ w64 (c .available-at .result) (record { sfits = c .available-at .ok }) ∙ c .available-at .ensures)
+    (toZ-ofZ w64 (c .available-in .result) (record { sfits = c .available-in .ok }) ∙ c .available-in .ensures)
 
 returns-2 : tie.Need-returns-2
 returns-2 c =
-    let told = c .before .before .before .before in
+    let told = c .before .before in
     refused _ _ _ _ _ _ (told .before .answer2 .given .1) (c .before .number2 .ensures)
-    (toZ-ofZ w64 (c .available-at2 .result) (record { sfits = c .available-at2 .ok }) ∙ c .available-at2 .ensures)
+    (toZ-ofZ w64 (c .available-in2 .result) (record { sfits = c .available-in2 .ok }) ∙ c .available-in2 .ensures)
 
 pub answer-to-spec : {M : Type 1} → statement M
 answer-to-spec =
@@ -74,9 +62,11 @@ answer-to-spec =
     (λ c. search needs)
     (λ c κs. search needs)
     (λ c κs. search needs)
-    available-at-requires
+    (λ c κs.
+    let after = c .before .before in
+    subst (λ (x : Entered). SoundBook (x .book)) (sym (after .enter .ensures)) (entered-sound _ _ _ (after .before .before .before .before .before .pre)))
     (λ c. search needs)
     (λ c κs. search needs)
-    (λ c κs. sheet-of _ (c .before .before .before .before .before .before .before .pre))
+    (λ c κs. c .before .before .before .before .before .pre)
     returns
     returns-2)
