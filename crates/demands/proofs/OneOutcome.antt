@@ -20,7 +20,7 @@ use Rattle.fills.proofs.cancel.Reads as cancel
 use Rattle.day_end.proofs.day_end.Reads as day-end
 use Rattle.steps.proofs.step.Reads as step
 use Rattle.set_up.proofs.enter.Reads as enter
-use Rattle.set_up.proofs.list_verdict.Reads as list-verdict
+use Rattle.rows.proofs.list_verdict.Reads as list-verdict
 use Rattle.desk.proofs.run_list.Reads as run-list
 use Rattle.desk.proofs.run_book.Reads as run-book
 

@@ -12,7 +12,7 @@ use Rattle.reading.specs.Reading.{readAt}
 use Rattle.account.specs.declared.judged.Verdict.{Verdict}
 use Rattle.account.specs.declared.judged.Verdict.the-variants.{Refused}
 use Rattle.account.specs.declared.tables.Tables.{Tables}
-use Rattle.set_up.specs.Given.{listVerdict}
+use Rattle.rows.specs.Given.{listVerdict}
 use Rattle.set_up.specs.Sound.{SoundBook}
 use Rattle.set_up.specs.declared.stages.Book.{Book}
 use Rattle.desk.specs.Runs.{Ran, _before_, answerTo, ended, listBy, listRun, numbersLeft, runFrom, sumsLeft}

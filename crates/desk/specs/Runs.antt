@@ -17,7 +17,7 @@ use Rattle.account.specs.declared.account.Sheet.{Sheet}
 use Rattle.account.specs.declared.judged.Verdict.{Verdict}
 use Rattle.account.specs.declared.judged.Verdict.the-variants.{Accepted, Refused}
 use Rattle.account.specs.declared.tables.Tables.{Tables}
-use Rattle.set_up.specs.Given.{listVerdict}
+use Rattle.rows.specs.Given.{listVerdict}
 use Rattle.set_up.specs.Stages.{entered, newBook, opened, waiting}
 use Rattle.set_up.specs.declared.stages.Book.{Book}
 use Rattle.set_up.specs.declared.stages.Stage.{Stage}

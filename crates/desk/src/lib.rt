@@ -5,11 +5,11 @@ use account::Tables;
 use account::Verdict;
 use answer::answer_to;
 use reading::read;
+use rows::list_verdict;
 use set_up::Book;
-use set_up::list_verdict;
 ghost use mathlib.Core.Path.{_≡_};
 ghost use Rattle.set_up.specs.Sound.{SoundBook};
-ghost use Rattle.set_up.specs.Given.{listVerdict};
+ghost use Rattle.rows.specs.Given.{listVerdict};
 ghost use Rattle.desk.specs.Runs.{bookRun, listRun, numbersLeft, placesIn, runFrom, sumsLeft, told};
 
 // What a run leads to. The verdict is that on what it starts from: a list's tables or cash may be refused, and then no record is

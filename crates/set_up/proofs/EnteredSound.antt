@@ -32,7 +32,7 @@ use Rattle.account.proofs.OpeningSound.{opening-sound}
 use Rattle.account.proofs.Passed.{went-on}
 use Rattle.account.proofs.Rows.{row-added}
 use Rattle.account.proofs.StepSound.{step-sound}
-use Rattle.set_up.specs.Given.{listVerdict, tablesAllowed}
+use Rattle.rows.specs.Given.{listVerdict, tablesAllowed}
 use Rattle.set_up.specs.Sound.{SoundBook}
 use Rattle.set_up.specs.Stages.{bookAfter, contractVerdict, entered, enteredAs, inPlace, newBook, opened, recordVerdict, underlyingVerdict, withContract, withEntry, withUnderlying}
 use Rattle.set_up.specs.declared.stages.Book.{Book}

@@ -1,4 +1,3 @@
 -- Set-up, as document 01's "Records" and "Refusal numbers" state it.
-pub mod Given
 pub mod Sound
 pub mod Stages

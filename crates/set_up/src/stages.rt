@@ -1,6 +1,4 @@
 // A record of a book at its stage.
-use crate::rows::contract_allowed;
-use crate::rows::underlying_allowed;
 use account::Account;
 use account::Tables;
 use account::Verdict;
@@ -8,6 +6,8 @@ use entries::Contract;
 use entries::Entry;
 use entries::Figures;
 use entries::Underlying;
+use rows::contract_allowed;
+use rows::underlying_allowed;
 use steps::step;
 use terms::Class;
 use terms::Measure;

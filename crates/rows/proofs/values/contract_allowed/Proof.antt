@@ -2,8 +2,8 @@
 use mathlib.Core.Bool.{_&&_}
 use borrow.Author.Needs.{needs}
 use lib.Dec.{ltb}
-use Rattle.set_up.proofs.rows.contract_allowed.Statement.{statement}
-use Rattle.set_up.proofs.rows.contract_allowed.Tie as tie
+use Rattle.rows.proofs.values.contract_allowed.Statement.{statement}
+use Rattle.rows.proofs.values.contract_allowed.Tie as tie
 
 returns : tie.Need-returns
 returns c =

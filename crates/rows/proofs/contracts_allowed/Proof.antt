@@ -9,8 +9,8 @@ use Rattle.account.specs.DayEnd.{every}
 use Rattle.account.specs.Rows.{noContract}
 use Rattle.account.specs.Sound.{contractAllowed}
 use Rattle.account.proofs.Listed.{all-passed, one-fails, one-more}
-use Rattle.set_up.proofs.given.contracts_allowed.Statement.{statement}
-use Rattle.set_up.proofs.given.contracts_allowed.Tie as tie
+use Rattle.rows.proofs.contracts_allowed.Statement.{statement}
+use Rattle.rows.proofs.contracts_allowed.Tie as tie
 
 abbrev Inv-loop : tie.InvT-loop
 Inv-loop n m rows c₀ c = (c ≤ n) × (every c (λ k. contractAllowed m (getD rows k noContract)) ≡ true)

@@ -9,8 +9,8 @@ use Rattle.account.specs.DayEnd.{every}
 use Rattle.account.specs.Rows.{noUnderlying}
 use Rattle.account.specs.Sound.{underlyingAllowed}
 use Rattle.account.proofs.Listed.{all-passed, one-fails, one-more}
-use Rattle.set_up.proofs.given.underlyings_allowed.Statement.{statement}
-use Rattle.set_up.proofs.given.underlyings_allowed.Tie as tie
+use Rattle.rows.proofs.underlyings_allowed.Statement.{statement}
+use Rattle.rows.proofs.underlyings_allowed.Tie as tie
 
 abbrev Inv-loop : tie.InvT-loop
 Inv-loop m rows u₀ u = (u ≤ m) × (every u (λ k. underlyingAllowed (getD rows k noUnderlying)) ≡ true)

@@ -1,4 +1,4 @@
-// The rows of the tables: whether the values of one are allowed.
+// A row by itself.
 use entries::Contract;
 use entries::Underlying;
 use terms::Measure;
@@ -6,7 +6,7 @@ use terms::unit_allowed;
 ghost use mathlib.Core.Path.{_≡_};
 ghost use Rattle.account.specs.Sound.{contractAllowed, underlyingAllowed};
 
-pub(crate) fn underlying_allowed(row: Underlying) -> bool
+pub fn underlying_allowed(row: Underlying) -> bool
     ensures { λ r. ⌜ r ≡ underlyingAllowed row ⌝ }
 {
     Measure::Price.allows(row.close as u64)
@@ -16,7 +16,7 @@ pub(crate) fn underlying_allowed(row: Underlying) -> bool
 }
 
 // With no underlying in the tables there is none that a contract could be on.
-pub(crate) fn contract_allowed(m: usize, row: Contract) -> bool
+pub fn contract_allowed(m: usize, row: Contract) -> bool
     ensures { λ r. ⌜ r ≡ contractAllowed m row ⌝ }
 {
     ((row.underlying as usize) < m)

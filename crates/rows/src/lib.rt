@@ -1,19 +1,21 @@
-// Tables and opening cash that are given whole.
-use crate::rows::contract_allowed;
-use crate::rows::underlying_allowed;
+// The rows of the tables: whether the values of one are allowed, and tables and opening cash that are given whole.
+mod values;
+
 use account::Tables;
 use account::Verdict;
 use entries::Contract;
 use entries::Underlying;
 use terms::Measure;
 use terms::Refusal;
+pub use values::contract_allowed;
+pub use values::underlying_allowed;
 ghost use mathlib.Core.Path.{_≡_};
 ghost use Prim.Native.Nat.{_≤_};
 ghost use lib.ListN.{getD};
 ghost use Rattle.account.specs.DayEnd.{every};
 ghost use Rattle.account.specs.Rows.{noContract, noUnderlying};
 ghost use Rattle.account.specs.Sound.{contractAllowed, underlyingAllowed};
-ghost use Rattle.set_up.specs.Given.{listVerdict};
+ghost use Rattle.rows.specs.Given.{listVerdict};
 
 // The verdict on what a list starts from.
 pub fn list_verdict(tables: Tables, cash: u64) -> Verdict

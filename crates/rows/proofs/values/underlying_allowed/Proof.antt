@@ -1,8 +1,8 @@
 -- `underlying_allowed` meets its contract: each of the four values is tested against its range.
 use mathlib.Core.Bool.{_&&_}
 use borrow.Author.Needs.{needs}
-use Rattle.set_up.proofs.rows.underlying_allowed.Statement.{statement}
-use Rattle.set_up.proofs.rows.underlying_allowed.Tie as tie
+use Rattle.rows.proofs.values.underlying_allowed.Statement.{statement}
+use Rattle.rows.proofs.values.underlying_allowed.Tie as tie
 
 pub underlying-allowed-spec : {M : Type 1} → statement M
 underlying-allowed-spec =

@@ -17,9 +17,9 @@ use Rattle.account.specs.Verdicts.{_else_then_}
 use Rattle.account.specs.declared.judged.Verdict.{Verdict}
 use Rattle.account.specs.declared.judged.Verdict.the-variants.{Accepted, Refused}
 use Rattle.account.specs.declared.tables.Tables.{Tables}
-use Rattle.set_up.specs.Given.{listVerdict}
-use Rattle.set_up.proofs.given.list_verdict.Statement.{statement}
-use Rattle.set_up.proofs.given.list_verdict.Tie as tie
+use Rattle.rows.specs.Given.{listVerdict}
+use Rattle.rows.proofs.list_verdict.Statement.{statement}
+use Rattle.rows.proofs.list_verdict.Tie as tie
 
 -- at most so many is not more than so many
 at-most : (x most : ℕ) → leb x most ≡ not (ltb most x)
