@@ -1,5 +1,5 @@
 -- What follows from how a run is made: the book is sound after every record, as one sees who lends so many places; a refused list leaves both slices as they were, and what a run does not answer it leaves alone.
-use mathlib.Core.Path.{_≡_, ap}
+use mathlib.Core.Path.{_≡_, sym, ap, subst}
 use mathlib.Core.Bool.{Bool, true, false, cond}
 use mathlib.Core.List.{List, map}
 use Prim.Native.Nat.{ℕ, zero, suc, _+_}
@@ -14,10 +14,14 @@ use Rattle.account.specs.declared.judged.Verdict.the-variants.{Refused}
 use Rattle.account.specs.declared.tables.Tables.{Tables}
 use Rattle.rows.specs.Given.{listVerdict}
 use Rattle.set_up.specs.Sound.{SoundBook}
+use Rattle.set_up.specs.Stages.{newBook}
 use Rattle.set_up.specs.declared.stages.Book.{Book}
+use Rattle.set_up.proofs.EnteredSound.{new-sound}
 use Rattle.desk.specs.Runs.{Ran, _before_, answerTo, ended, listBy, listRun, numbersLeft, runFrom, sumsLeft}
+use Rattle.desk.specs.declared.Run.{Run}
 use Rattle.desk.specs.declared.answer.Answered.{Answered}
 use Rattle.desk.proofs.Answered.{answer-sound}
+use Rattle.desk.proofs.run_book.Reads as run-book
 
 pub sound-after-each : (places : ℕ) (s : List ℕ) (place : ℕ) (b : Book) → SoundBook b → SoundBook (runFrom places s place b .book)
 unfolding runFrom
@@ -32,6 +36,10 @@ sound-after-each (suc places) s place b sound =
     go false answer ends next more = sound
     go true answer true next more = next
     go true answer false next more = more
+
+-- so what running a book gives back is sound, whatever its bytes are and however many places are lent
+pub book-sound : (κs : _) (a : _) (r : _) (s : _) → run-book.Post κs a r s → SoundBook (r .book)
+book-sound κs a r s p = subst (λ (run : Run). SoundBook (run .book)) (sym (p .0)) (sound-after-each _ _ 0 newBook new-sound)
 
 pub refused-list : (t : Tables) (cash places : ℕ) (s numbers : List ℕ) (sums : List ℤ) (why : Refusal) → listVerdict t cash ≡ Refused why
     → (numbersLeft (listRun t cash places s) numbers ≡ numbers) × (sumsLeft (listRun t cash places s) sums ≡ sums)
