@@ -53,6 +53,13 @@ fn examples_are_as_written() {
     assert_eq!(printed(&example("day.book")), worked::LINES);
 }
 
+/// The gate runs the program on the same ten records, and holds it to the same ten lines.
+#[test]
+fn the_gate_has_the_worked_book() {
+    assert_eq!(example("../crates/book/stdin"), example("day.book"));
+    assert_eq!(example("../crates/book/stdout"), worked::LINES.as_bytes());
+}
+
 /// The lines in the tables of the examples' page are those that are printed.
 #[test]
 fn examples_are_as_told() {
