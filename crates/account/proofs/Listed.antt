@@ -1,7 +1,7 @@
--- What is made or tested number by number is so at each number: by induction on how many there are, the last being made or tested last.
+-- What is made or tested number by number is so at each number: by induction on how many there are, the last being made or tested last. An array has as many rows as its type says.
 use mathlib.Core.Path.{_≡_, refl, sym, ap, subst, _∙_}
 use mathlib.Core.Bool.{Bool, true, false, cond, false≢true}
-use mathlib.Core.List.{[], _∷_, _++_}
+use mathlib.Core.List.{List, [], _∷_, _++_, map}
 use mathlib.Core.Logic.{inl, inr}
 use Prim.Native.Nat.{ℕ, zero, suc, _+_, _≤_, _<_}
 use native.Mathlib.Numerals.{add-one}
@@ -9,7 +9,7 @@ use native.Mathlib.Nat.{eq-or-lt-of-le, le-of-suc-le-suc, not-suc-le-zero}
 use native.Mathlib.Omega.{arith}
 use borrow.Author.Tests.{lt-ltb}
 use lib.Dec.{ltb}
-use lib.ListN.{length, getD, length-append, List·getD-append}
+use lib.ListN.{length, getD, length-append, length-map, List·getD-append}
 use lib.Seq.{getD-at}
 use Rattle.terms.proofs.Ranges.{first-holds, second-holds}
 use Rattle.account.specs.DayEnd.{listed, every}
@@ -53,3 +53,7 @@ module _ (test : ℕ → Bool) where
 
   pub all-passed : (i n : ℕ) → i ≡ n → every i test ≡ true → every n test ≡ true
   all-passed i n e all = subst (λ (k : ℕ). every k test ≡ true) e all
+
+-- an array has as many rows as its type says: what is known of the machine's values, one for each row, is so of the rows
+pub counted : (X Y : Type 0) (f : X → Y) (rows : List X) (n : ℕ) → length (map f rows) ≡ n → length rows ≡ n
+counted X Y f rows n e = sym (length-map rows f) ∙ e

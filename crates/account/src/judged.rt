@@ -11,10 +11,23 @@ use terms::Refusal;
 use terms::Units;
 ghost use mathlib.Core.Path.{_≡_};
 ghost use Rattle.account.specs.Changes.{ofSheet, withoutPosition};
+ghost use Rattle.account.specs.Verdicts.{numberIn};
 
 pub enum Verdict {
     Accepted,
     Refused(Refusal),
+}
+
+impl Verdict {
+    // As the paper counts: 0, or the refusal's number.
+    pub fn number(self) -> u8
+        ensures { λ r. ⌜ r ≡ numberIn self ⌝ }
+    {
+        match self {
+            Verdict::Accepted => 0,
+            Verdict::Refused(why) => why.number(),
+        }
+    }
 }
 
 // The facts of an order; of one whose values are not allowed nothing else is known. Position is the count that the order moves and

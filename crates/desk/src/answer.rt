@@ -1,5 +1,4 @@
 // The answer to one record of a run.
-use account::Verdict;
 use money::available;
 use reading::Answer;
 use reading::Reading;
@@ -7,7 +6,6 @@ use set_up::Book;
 use set_up::Stage;
 use set_up::enter;
 ghost use mathlib.Core.Path.{_≡_};
-ghost use Rattle.account.specs.Verdicts.{numberIn};
 ghost use Rattle.set_up.specs.Sound.{SoundBook};
 ghost use Rattle.desk.specs.Runs.{answerTo, availableIn};
 
@@ -33,7 +31,7 @@ pub(crate) fn answer_to(before: Book, reading: Reading) -> Answered
             let verdict = entered.verdict;
             let book = entered.book;
             Answered {
-                number: number(verdict),
+                number: verdict.number(),
                 available: available_in(book),
                 ends: false,
                 length,
@@ -47,15 +45,6 @@ pub(crate) fn answer_to(before: Book, reading: Reading) -> Answered
             length: 0,
             book: before,
         },
-    }
-}
-
-fn number(verdict: Verdict) -> u8
-    ensures { λ r. ⌜ r ≡ numberIn verdict ⌝ }
-{
-    match verdict {
-        Verdict::Accepted => 0,
-        Verdict::Refused(why) => why.number(),
     }
 }
 

@@ -22,20 +22,13 @@ pub fn show(verdict: Verdict, sheet: Sheet, last: u32)
     requires { ⌜ SoundSheet sheet ⌝ }
 {
     text(b" =");
-    number(code(verdict));
+    number(verdict.number() as u64);
     signed(available(sheet));
     number(sheet.cash);
     number(sheet.premium);
     number(sheet.holds);
     number(sheet.margin);
     number(last as u64);
-}
-
-fn code(verdict: Verdict) -> u64 {
-    match verdict {
-        Verdict::Accepted => 0,
-        Verdict::Refused(why) => why.number() as u64,
-    }
 }
 
 pub fn rows(account: Account) {

@@ -1,7 +1,6 @@
 // What came out: the verdict, how many records were answered, the place, the stage, how many underlyings and contracts there are, then
 // all places of both arrays.
 use crate::PLACES;
-use account::Verdict;
 use desk::Run;
 use lines::output::number;
 use lines::output::signed;
@@ -14,19 +13,12 @@ pub fn told(run: Run) {
     let stage = book.stage;
     let tables = book.tables;
     text(b" =");
-    number(code(verdict));
+    number(verdict.number() as u64);
     number(run.answered as u64);
     number(run.place as u64);
     number(stage_number(stage));
     number(tables.m as u64);
     number(tables.n as u64);
-}
-
-fn code(verdict: Verdict) -> u64 {
-    match verdict {
-        Verdict::Accepted => 0,
-        Verdict::Refused(why) => why.number() as u64,
-    }
 }
 
 fn stage_number(stage: Stage) -> u64 {

@@ -1,9 +1,8 @@
 -- `run_list` meets its contract: a run from the opened book where tables and cash are accepted, and nothing where they are refused.
 use mathlib.Core.Path.{_≡_, sym, subst, _∙_}
-use mathlib.Core.List.{List, map}
-use Prim.Native.Nat.{ℕ}
 use borrow.Author.Needs.{needs}
-use lib.ListN.{length, length-map}
+use lib.ListN.{length}
+use Rattle.account.proofs.Listed.{counted}
 use Rattle.set_up.specs.Sound.{SoundBook}
 use Rattle.set_up.proofs.EnteredSound.{list-sound}
 use Rattle.desk.proofs.Started.{from-start, list-refused, list-run}
@@ -11,9 +10,6 @@ use Rattle.desk.proofs.run_list.Statement.{statement}
 use Rattle.desk.proofs.run_list.Tie as tie
 
 -- the arrays have as many rows as their types say
-counted : (X Y : Type 0) (f : X → Y) (l : List X) (n : ℕ) → length (map f l) ≡ n → length l ≡ n
-counted X Y f l n e = sym (length-map l f) ∙ e
-
 sizes : (start : tie.Start) → (length (start .args .tables .underlyings) ≡ 8) × (length (start .args .tables .contracts) ≡ 64)
 sizes start = (search (counted, needs), search (counted, needs))
 

@@ -1,14 +1,15 @@
 -- `apply` meets its contract: each of the three rows is set where its number is inside, and where it is past the last, setting it changes nothing.
 use mathlib.Core.Path.{_≡_, sym, ap, subst, _∙_}
 use mathlib.Core.Logic.{_⊎_, inl, inr}
-use mathlib.Core.List.{List, map}
+use mathlib.Core.List.{List}
 use Prim.Native.Nat.{ℕ, _≤_}
 use borrow.Author.Needs.{needs}
-use lib.ListN.{length, length-map, set}
+use lib.ListN.{length, set}
 use lib.Seq.{set-out}
 use Rattle.account.specs.Changes.{applied}
 use Rattle.account.specs.declared.account.Account.{Account}
 use Rattle.account.specs.declared.judged.Change.{Change}
+use Rattle.account.proofs.Listed.{counted}
 use Rattle.account.proofs.account.Account.apply.Statement.{statement}
 use Rattle.account.proofs.account.Account.apply.Tie as tie
 
@@ -50,9 +51,6 @@ all a b c d ch first second third =
     (third ∙ ap (λ (x : Account). stocked x ch) (second ∙ ap (λ (x : Account). ordered x ch) first))
 
 -- the arrays have as many rows as their types say
-counted : (X Y : Type 0) (f : X → Y) (l : List X) (n : ℕ) → length (map f l) ≡ n → length l ≡ n
-counted X Y f l n e = sym (length-map l f) ∙ e
-
 sizes : (start : tie.Start) → (length (start .args .self .positions) ≡ 64) × ((length (start .args .self .orders) ≡ 32) × (length (start .args .self .holdings) ≡ 8))
 sizes start = (search (counted, needs), (search (counted, needs), search (counted, needs)))
 
