@@ -1,5 +1,5 @@
 # No public function of a library asks anything of its caller: bad input is refused by number, never required away.
-# A step on an account or a money sheet in hand is no public entry (document 01, "What the proofs owe"): it may ask that what it is
+# A step on an account, a money sheet or a book in hand is no public entry (document 01, "What the proofs owe"): it may ask that what it is
 # given is sound, and nothing else.
 set -eu
 cd "$(dirname "$0")/.."
@@ -12,4 +12,4 @@ if [ -n "$asks" ]; then
     printf 'a public function with a requires:\n%s\n' "$asks"
     exit 1
 fi
-echo "public functions ask nothing of their callers, steps only that account or sheet is sound"
+echo "public functions ask nothing of their callers, steps only that account, sheet or book is sound"

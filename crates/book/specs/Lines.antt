@@ -7,9 +7,18 @@ use lib.IntN.{ℤ, pos, negsuc}
 use lib.ListN.{length}
 use Rattle.desk.specs.Runs.{bookRun}
 
--- a digit as ASCII (house)
+-- a digit, a space, a minus and the end of a line, as ASCII (house)
 abbrev pub digit : ℕ → ℕ
 digit d = 48 + d
+
+abbrev pub space : ℕ
+space = 32
+
+abbrev pub minus : ℕ
+minus = 45
+
+abbrev pub newLine : ℕ
+newLine = 10
 
 -- a number's digits, the highest first and no zero before it, where there may be `most` at most (house)
 unfoldable pub digitsIn : ℕ → ℕ → List ℕ
@@ -23,11 +32,11 @@ decimal n = digitsIn 20 n
 -- a number that may lie below zero, a minus before its digits where it does (house)
 unfoldable pub signed : ℤ → List ℕ
 signed (pos n) = decimal n
-signed (negsuc n) = 45 ∷ decimal (suc n)
+signed (negsuc n) = minus ∷ decimal (suc n)
 
 -- a record's line: its number, a space, the refusal's number or 0, a space, available, the end of the line (Figures to meet)
 unfoldable pub lineOf : ℕ → ℕ → ℤ → List ℕ
-lineOf number refusal available = decimal number ++ 32 ∷ decimal refusal ++ 32 ∷ signed available ++ 10 ∷ []
+lineOf number refusal available = decimal number ++ space ∷ decimal refusal ++ space ∷ signed available ++ newLine ∷ []
 
 -- a line for each record, numbered on from the first one's number (Figures to meet)
 unfoldable pub linesFrom : ℕ → List ℕ → List ℤ → List ℕ

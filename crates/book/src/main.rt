@@ -27,14 +27,14 @@ fn main() {
 }
 
 fn page() -> [u8; PAGE]
-    ensures { λ r. ⌜ 262144 ≡ length r ⌝ }
+    ensures { λ r. ⌜ 262_144 ≡ length r ⌝ }
 {
     [0; PAGE]
 }
 
 // The lines of a book, put at the start of the page; how many bytes they are.
 fn printed(bytes: &[u8], page: &mut [u8; PAGE]) -> usize
-    requires { ⌜ length (now bytes) ≤ 65536 ⌝ }
+    requires { ⌜ length (now bytes) ≤ 65_536 ⌝ }
     ensures written { λ r. ⌜ r ≡ length (printedFor (now (bytes .entry))) ⌝ }
     ensures contents { λ r. ⌜ now (page .exit) ≡ printedFor (now (bytes .entry)) ++ drop r (now (page .entry)) ⌝ }
     ensures within { λ r. ⌜ Counts r (now (page .exit)) ⌝ }

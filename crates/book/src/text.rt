@@ -11,7 +11,7 @@ ghost use Rattle.book.specs.Lines.{decimal as Lines·decimal, signed as 
 
 // The lines of the first `count` records; how many bytes they are. A line whose number has at most six digits is at most 32 bytes long.
 pub(crate) fn lines(refusals: &[u8], sums: &[i64], count: usize, out: &mut [u8]) -> usize
-    requires { ⌜ (count ≤ length (now refusals)) × (count ≤ length (now sums)) × (count < 1000000) × (32 * count ≤ length (now out)) ⌝ }
+    requires { ⌜ (count ≤ length (now refusals)) × (count ≤ length (now sums)) × (count < 1_000_000) × (32 * count ≤ length (now out)) ⌝ }
     ensures written { λ r. ⌜ r ≡ length (linesFrom 1 (take count (now (refusals .entry))) (take count (now (sums .entry)))) ⌝ }
     ensures contents { λ r. ⌜ now (out .exit) ≡ linesFrom 1 (take count (now (refusals .entry))) (take count (now (sums .entry))) ++ drop r (now (out .entry)) ⌝ }
     ensures within { λ r. ⌜ Counts r (now (out .exit)) ⌝ }

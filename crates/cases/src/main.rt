@@ -6,6 +6,7 @@ mod ranges;
 mod reads;
 mod writes;
 
+use lines::input::letter;
 use lines::input::line_end;
 use lines::output::text;
 
@@ -27,11 +28,10 @@ fn run(s: &[u8]) {
 // A line that begins with '#' is a remark.
 fn line(l: &[u8]) {
     text(l);
-    if 0 < l.len() {
-        if l[0] != b'#' {
-            text(b" =");
-            answer(l, l[0]);
-        }
+    let asks = letter(l, 0);
+    if asks != b'#' {
+        text(b" =");
+        answer(l, asks);
     }
     text(b"\n");
 }

@@ -8,13 +8,10 @@ use entries::Underlying;
 use lines::codes;
 use lines::input::field;
 use lines::input::half;
+use lines::input::letter;
 use lines::input::word;
 use terms::Class;
 use terms::Right;
-
-pub fn letter(l: &[u8], at: usize) -> u8 {
-    if at < l.len() { l[at] } else { b'#' }
-}
 
 // A line's first letter says what it asks; its fields are those of the record.
 pub fn entry(l: &[u8]) -> Entry {

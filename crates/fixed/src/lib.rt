@@ -1,4 +1,4 @@
-// The two tables that `edges` books on: small ones, and full ones with every row taken.
+// The two tables that `edges` and `runs` book on: small ones, and full ones with every row taken.
 use account::Tables;
 use entries::Contract;
 use entries::Underlying;

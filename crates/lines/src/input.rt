@@ -25,6 +25,11 @@ pub fn line_end(s: &[u8], from: usize) -> usize
     end
 }
 
+// A line's letter at a place. Past its end stands the mark of a remark, so that an empty line asks nothing.
+pub fn letter(l: &[u8], at: usize) -> u8 {
+    if at < l.len() { l[at] } else { b'#' }
+}
+
 // The k-th field of a line, counted from 1, as a decimal number.
 pub fn field(l: &[u8], k: usize) -> u64 {
     digits(l, start(l, k), false)

@@ -7,16 +7,13 @@ use desk::run_list;
 use lines::input::LENT;
 use lines::input::bytes;
 use lines::input::field;
-
-pub fn letter(l: &[u8]) -> u8 {
-    if 0 < l.len() { l[0] } else { b'#' }
-}
+use lines::input::letter;
 
 // A book; a list on tables that are named; a list on such tables with one value changed.
 pub fn run_of(l: &[u8], numbers: &mut [u8], sums: &mut [i64]) -> Run {
     let mut lent = [0; LENT];
     let n = bytes(l, &mut lent);
-    match letter(l) {
+    match letter(l, 0) {
         b'l' => {
             let tables = named(field(l, 1));
             run_list(tables, field(l, 2), &lent[..n], numbers, sums)

@@ -4,9 +4,9 @@ mod asked;
 mod changed;
 mod shown;
 
-use asked::letter;
 use asked::run_of;
 use lines::input::field;
+use lines::input::letter;
 use lines::input::line_end;
 use lines::output::text;
 use shown::numbers;
@@ -40,7 +40,7 @@ fn run(s: &[u8]) {
 // Which fields say how many places are lent, for numbers and for sums. A line that asks nothing is a remark.
 fn line(l: &[u8]) {
     text(l);
-    match letter(l) {
+    match letter(l, 0) {
         b'b' => answer(l, field(l, 1), field(l, 2)),
         b'l' => answer(l, field(l, 3), field(l, 4)),
         b'c' => answer(l, field(l, 6), field(l, 7)),

@@ -40,7 +40,7 @@ waiting t = record { stage = Contracts; tables = t; account = opening 0 }
 abbrev pub opened : Tables → ℕ → Book
 opened t cash = record { stage = Entries; tables = t; account = opening cash }
 
--- "record out of its place, or an opening with no contract yet": the kinds that are in their place at a stage (Refusal numbers, 5)
+-- the kinds in their place at a stage: underlyings, until a contract ends them; contracts, until the opening ends them; entries. All else is "record out of its place, or an opening with no contract yet" (Refusal numbers, 5)
 abbrev pub inPlace : Stage → ℕ → Bool
 inPlace Underlyings kind = kind ∈ (16 to 17)
 inPlace Contracts kind = kind ∈ (17 to 18)
@@ -48,17 +48,17 @@ inPlace Entries kind = kind ∈ (1 to 8)
 
 -- something for each kind of set-up, by what its record carries, and for all other kinds (house)
 abbrev pub bySetUp : {A : Type 0} → (Underlying → A) → (Contract → A) → (ℕ → A) → A → Entry → A
-bySetUp row16 row17 cash18 other (Entry·of.Deposit amount) = other
-bySetUp row16 row17 cash18 other (Entry·of.Withdraw amount) = other
-bySetUp row16 row17 cash18 other (Entry·of.Lock u units) = other
-bySetUp row16 row17 cash18 other (Entry·of.Unlock u units) = other
-bySetUp row16 row17 cash18 other (Entry·of.Order o) = other
-bySetUp row16 row17 cash18 other (Entry·of.Fill fill) = other
-bySetUp row16 row17 cash18 other (Entry·of.Cancel number) = other
-bySetUp row16 row17 cash18 other (Entry·of.DayEnd n m) = other
-bySetUp row16 row17 cash18 other (Entry·of.Underlying row) = row16 row
-bySetUp row16 row17 cash18 other (Entry·of.Contract row) = row17 row
-bySetUp row16 row17 cash18 other (Entry·of.Opening cash) = cash18 cash
+bySetUp forUnderlying forContract forOpening other (Entry·of.Deposit amount) = other
+bySetUp forUnderlying forContract forOpening other (Entry·of.Withdraw amount) = other
+bySetUp forUnderlying forContract forOpening other (Entry·of.Lock u units) = other
+bySetUp forUnderlying forContract forOpening other (Entry·of.Unlock u units) = other
+bySetUp forUnderlying forContract forOpening other (Entry·of.Order o) = other
+bySetUp forUnderlying forContract forOpening other (Entry·of.Fill fill) = other
+bySetUp forUnderlying forContract forOpening other (Entry·of.Cancel number) = other
+bySetUp forUnderlying forContract forOpening other (Entry·of.DayEnd n m) = other
+bySetUp forUnderlying forContract forOpening other (Entry·of.Underlying row) = forUnderlying row
+bySetUp forUnderlying forContract forOpening other (Entry·of.Contract row) = forContract row
+bySetUp forUnderlying forContract forOpening other (Entry·of.Opening cash) = forOpening cash
 
 -- "a value outside its range .. a 9th underlying" (Refusal numbers, 4)
 abbrev pub underlyingVerdict : Tables → Underlying → Verdict
