@@ -69,9 +69,12 @@ outcome (Refused why) t a t' a' = record { verdict = Refused why; tables = t; ac
 unfoldable pub step : Tables → Account → Entry → Figures → Outcome
 step t a e f = outcome (refusalOf t a e f) t a (tablesAfter t e f) (accountAfter t a e f)
 
--- a list of entries, each with its figures: what each of them leads to, one after the other (house)
+-- a list of entries, each with its figures, by what an entry leads to: what each of them leads to, one after the other (house)
+abbrev pub runBy : (Tables → Account → Entry → Figures → Outcome) → Tables → Account → List (Entry × Figures) → List Outcome
+runBy lead t a [] = []
+runBy lead t a (e ∷ es) =
+    let after = lead t a (e .0) (e .1) in
+    after ∷ runBy lead (after .tables) (after .account) es
+
 unfoldable pub run : Tables → Account → List (Entry × Figures) → List Outcome
-run t a [] = []
-run t a (e ∷ es) =
-    let after = step t a (e .0) (e .1) in
-    after ∷ run (after .tables) (after .account) es
+run t a es = runBy step t a es
