@@ -1,6 +1,11 @@
 -- What this product promises, as theorems over the crates' definitions and over the contracts generated from their functions.
 pub mod BooksTold
 pub mod DayEndLengths
+pub mod EntriesToo
+pub mod EveryEntry
+pub mod EveryInput
+pub mod GiftOfLists
+pub mod GiftOfRuns
 pub mod LentBuffer
 pub mod OneOutcome
 pub mod OrderToo
@@ -10,6 +15,7 @@ pub mod ReadBytes
 pub mod ReadWritten
 pub mod RecordsTold
 pub mod RunsTold
+pub mod ShutOut
 pub mod Stepped
 pub mod Told
 pub mod WhatFollows

@@ -34,7 +34,7 @@ use Rattle.account.specs.declared.judged.Verdict.the-variants.{Accepted, Refuse
 use Rattle.account.specs.declared.tables.Tables.{Tables}
 use Rattle.account.proofs.Available.{more-cash}
 use Rattle.account.proofs.Passed.{accepted-passed, facts-known, went-on}
-use Rattle.demands.specs.Richer.{Roomier, RoomierTables, richerSheet, richer, Likewise}
+use Rattle.demands.specs.Gift.{Roomier, RoomierTables, richerSheet, richer}
 
 pub richer-available : (X : ℕ) (a : Account) → availableOf (richer X a .sheet) ≡ availableOf (a .sheet) +ℤ pos X
 richer-available X a = more-cash (a .sheet) X
@@ -155,23 +155,3 @@ unfolding refusalOf accountAfter
 order-too X t t' a o f r e =
     let easier = facts-easier X t t' a o r (accepted-passed t a o e .allowed) in
     (verdict-too easier o e, change-too easier a o)
-
--- an order changes no table
-pub same-tables : (t t' : Tables) (o : Given.Order) (f : Figures) → RoomierTables t t' → RoomierTables (tablesAfter t (Order o) f) (tablesAfter t' (Order o) f)
-unfolding tablesAfter
-same-tables t t' o f r = r
-
-outcome-verdict : (v : Verdict) (t t' : Tables) (a a' : Account) → outcome v t a t' a' .verdict ≡ v
-outcome-verdict Accepted t t' a a' = refl
-outcome-verdict (Refused why) t t' a a' = refl
-
--- an accepted step leads to the tables and the account after its entry, so what holds of those holds of the step
-pub likewise : (X : ℕ) (t t' : Tables) (a : Account) (entry : Entry) (f : Figures) → (refusalOf t a entry f ≡ Accepted → (refusalOf t' (richer X a) entry f ≡ Accepted) × (accountAfter t' (richer X a) entry f ≡ richer X (accountAfter t a entry f))) → RoomierTables (tablesAfter t entry f) (tablesAfter t' entry f) → step t a entry f .verdict ≡ Accepted → Likewise X (step t a entry f) (step t' (richer X a) entry f)
-unfolding step
-likewise X t t' a entry f too tables e =
-    let first = sym (outcome-verdict (refusalOf t a entry f) t (tablesAfter t entry f) a (accountAfter t a entry f)) ∙ e in
-    let (second, account) = too first in
-    rw (first, second) (record { verdict = refl; account = account; tables = tables })
-
-pub step-too : (X : ℕ) (t t' : Tables) (a : Account) (o : Given.Order) (f : Figures) → RoomierTables t t' → step t a (Order o) f .verdict ≡ Accepted → Likewise X (step t a (Order o) f) (step t' (richer X a) (Order o) f)
-step-too X t t' a o f r = likewise X t t' a (Order o) f (order-too X t t' a o f r) (same-tables t t' o f r)

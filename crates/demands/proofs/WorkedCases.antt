@@ -2,7 +2,8 @@
 use Rattle.rules.specs.Charges.{marginCharge, marginAllowed}
 use Rattle.rules.specs.Margin.{ratesOf, outOfTheMoney, amountOf, marginOf, halvesUp, _less_butAtLeast_}
 use Rattle.rules.specs.Netting.{netted, againstShort, againstCovered}
-use Rattle.demands.specs.WorkedCases.{Each, Holds, cases}
+use Rattle.demands.specs.Each.{Each}
+use Rattle.demands.specs.WorkedCases.{Holds, cases}
 
 pub a-to-n : Each Holds cases
 unfolding marginCharge marginAllowed ratesOf outOfTheMoney amountOf marginOf halvesUp _less_butAtLeast_ netted againstShort againstCovered

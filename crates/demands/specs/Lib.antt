@@ -1,7 +1,11 @@
 -- What the theorems speak of besides the crates' own definitions.
+pub mod Each
+pub mod EveryEntry
+pub mod Gift
+pub mod GiftRuns
 pub mod InOrder
 pub mod Records
-pub mod Richer
 pub mod Says
 pub mod Staged
 pub mod WorkedCases
+pub mod WrongDesks

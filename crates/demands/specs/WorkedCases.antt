@@ -23,10 +23,6 @@ abbrev pub Holds : Case → Type 0
 Holds (margin class right unit S P K fen) = marginCharge class right S P K unit ≡ Fen fen
 Holds (nets l s c l' s' c') = netted (position l s c) ≡ position l' s' c'
 
-abbrev pub Each : {A : Type 0} → (A → Type 0) → List A → Type 0
-Each P [] = Unit {0}
-Each P (x ∷ xs) = P x × Each P xs
-
 abbrev pub cases : List Case
 cases =
     margin Fund Call 10_000 500 25_000 26_000 250_000  -- a

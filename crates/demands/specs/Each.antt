@@ -1,0 +1,21 @@
+-- What holds of every element of a list, and of every pair of two.
+use Prim.Native.Nat.{ℕ}
+use mathlib.Core.Bool.{true}
+use mathlib.Core.List.{List, [], _∷_}
+use mathlib.Core.Path.{_≡_}
+use Rattle.account.specs.Checks.{member}
+
+abbrev pub Each : {A : Type 0} → (A → Type 0) → List A → Type 0
+Each P [] = Unit {0}
+Each P (x ∷ xs) = P x × Each P xs
+
+-- two lists of one length, element beside element
+abbrev pub EachPair : {A : Type 0} → (A → A → Type 0) → List A → List A → Type 0
+EachPair P [] [] = Unit {0}
+EachPair P [] (y ∷ ys) = ⊥
+EachPair P (x ∷ xs) [] = ⊥
+EachPair P (x ∷ xs) (y ∷ ys) = P x y × EachPair P xs ys
+
+-- a number that a list names
+abbrev pub OneOf : List ℕ → ℕ → Type 0
+OneOf numbers n = member n numbers ≡ true
