@@ -82,10 +82,14 @@ pub record Tells (outcomes : List Outcome) (numbers : List ℕ) (sums : List ℤ
   pub eachNumber : numbers ≡ map (λ after. numberIn (after .verdict)) outcomes
   pub eachSum : sums ≡ map (λ after. availableOf (after .account .sheet)) outcomes
 
--- no run of the list on this input that its contract allows tells what the desk makes of it
-abbrev pub ShutOut : Desk → Type 0
-ShutOut desk =
+-- what holds of the two lent slices after every run of this input that the contract of running a list allows; each slice has a place for every entry
+abbrev pub OnShown : (List ℕ → List ℤ → Type 0) → Type 0
+OnShown Holds =
     (κs : _) (a : _) (r : _) (s : _) → run-list.Post κs a r s
     → a .0 ≡ shownTables → a .1 .0 ≡ shownCash → now (a .1 .1 .0) ≡ recordsOf shownEntries
     → length (now (a .1 .1 .1 .0)) ≡ 4 → length (now (a .1 .1 .1 .1 .0)) ≡ 4
-    → Tells (desk shownTables shownCash shownEntries) (now (s .1 .1 .1 .0)) (now (s .1 .1 .1 .1 .0)) → ⊥
+    → Holds (now (s .1 .1 .1 .0)) (now (s .1 .1 .1 .1 .0))
+
+-- no such run tells what the desk makes of the list
+abbrev pub ShutOut : Desk → Type 0
+ShutOut desk = OnShown (λ numbers sums. Tells (desk shownTables shownCash shownEntries) numbers sums → ⊥)
