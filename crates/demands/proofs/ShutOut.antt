@@ -9,7 +9,7 @@ use lib.ListN.{length, drop, drop-of-length-le}
 use Rattle.terms.specs.declared.refusal.Refusal.{Refusal}
 use Rattle.rules.specs.Count.{forCount}
 use Rattle.rules.specs.Premium.{premiumOf}
-use Rattle.entries.specs.Numbers.{bytes, numberAt, value}
+use Rattle.entries.specs.Numbers.{bytes, numberAt}
 use Rattle.entries.specs.Table.{lengthFits}
 use Rattle.entries.specs.declared.entry.Entry.{Entry}
 use Rattle.entries.specs.declared.entry.Figures.{Figures}
@@ -80,7 +80,7 @@ abbrev shownSums : List ℤ
 shownSums = map (λ answer. answer .1) shownAnswers
 
 shown : listRun shownTables shownCash 4 (recordsOf shownEntries) .answers ≡ shownAnswers
-unfolding listVerdict runFrom answerTo readAt readFrom ofKind wholeAt lengthFits numberAt value bytes recordOf entered recordVerdict bookAfter refusalOf tablesAfter accountAfter depositVerdict depositChange factsOf orderAllowed orderVerdict orderChange applied freePlace lowest Σ rightsIn totalIn countIn overOrders forCount premiumOf availableOf
+unfolding listVerdict runFrom answerTo readAt readFrom ofKind wholeAt lengthFits numberAt bytes recordOf entered recordVerdict bookAfter refusalOf tablesAfter accountAfter depositVerdict depositChange factsOf orderAllowed orderVerdict orderChange applied freePlace lowest Σ rightsIn totalIn countIn overOrders forCount premiumOf availableOf
 shown = refl
 
 -- four answers fill a slice of four places
