@@ -7,6 +7,7 @@ pub mod EveryInput
 pub mod GiftOfLists
 pub mod GiftOfRuns
 pub mod LentBuffer
+pub mod ListOfRecords
 pub mod OneOutcome
 pub mod OrderToo
 pub mod OrdersTold

@@ -35,7 +35,8 @@ use Rattle.set_up.specs.Stages.{bookAfter, entered, recordVerdict}
 use Rattle.desk.specs.Runs.{answerTo, listRun, runFrom}
 use Rattle.demands.specs.Each.{EachPair}
 use Rattle.demands.specs.Gift.{Desk, Gift, Likewise, XMore, richer}
-use Rattle.demands.specs.WrongDesks.{OnShown, ShutOut, Tells, alwaysSame, booksNothing, forgetsDaily, pretends, recordsOf, refusesAll, shownCash, shownEntries, shownTables}
+use Rattle.demands.specs.Records.{recordsOf}
+use Rattle.demands.specs.WrongDesks.{OnShown, ShutOut, Tells, alwaysSame, booksNothing, forgetsDaily, pretends, refusesAll, shownCash, shownEntries, shownTables}
 use Rattle.demands.proofs.GiftOfLists.{gift-by, richer-more, step-leads}
 
 -- one outcome beside another, for every entry of a list

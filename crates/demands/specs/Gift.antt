@@ -1,28 +1,18 @@
 -- Demand 3: "Two accounts whose tables differ at most in the limits, the second with X fen more and limits at least as high: where the first accepts a whole list (and the ceiling holds with X added), the second accepts it too, and after each entry both hold the same positions, orders, margin and locked units, the second exactly X more available."
-use mathlib.Core.Bool.{true}
 use mathlib.Core.List.{List}
 use mathlib.Core.Path.{_≡_}
-use Prim.Native.Nat.{ℕ, _+_, _≤_, _<_}
-use lib.IntN.{ℤ, pos, _+ℤ_}
-use lib.ListN.{getD, length, take}
+use Prim.Native.Nat.{ℕ, _+_, _≤_}
+use lib.IntN.{pos, _+ℤ_}
 use Rattle.entries.specs.declared.entry.Entry.{Entry}
-use Rattle.entries.specs.declared.entry.Entry.the-variants as Entry·of
 use Rattle.entries.specs.declared.entry.Figures.{Figures}
 use Rattle.entries.specs.declared.entry.Underlying.{Underlying}
-use Rattle.reading.specs.Reading.{readAt}
-use Rattle.reading.specs.declared.Answer.the-variants as Answer·of
 use Rattle.account.specs.Money.{availableOf}
 use Rattle.account.specs.Rows.{holding, underlying}
-use Rattle.account.specs.Sound.{underlyingAllowed}
 use Rattle.account.specs.declared.account.Account.{Account}
 use Rattle.account.specs.declared.account.Sheet.{Sheet}
 use Rattle.account.specs.declared.judged.Outcome.{Outcome}
 use Rattle.account.specs.declared.judged.Verdict.the-variants.{Accepted}
 use Rattle.account.specs.declared.tables.Tables.{Tables}
-use Rattle.set_up.specs.declared.stages.Book.{Book}
-use Rattle.set_up.specs.declared.stages.Stage.the-variants.{Entries}
-use Rattle.desk.specs.Runs.{Ran, bookRun}
-use Rattle.desk.specs.declared.Run.{Run}
 use Rattle.demands.specs.Each.{Each, EachPair}
 
 -- an underlying's row beside another that differs at most in limits at least as high

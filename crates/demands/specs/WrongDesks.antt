@@ -1,6 +1,6 @@
 -- Desks that demand 3 alone would let through ("What the proofs owe"), and the list on tables and cash that shows each of them.
 use denote.Ref.{now}
-use mathlib.Core.List.{List, [], _∷_, _++_, map}
+use mathlib.Core.List.{List, [], _∷_, map}
 use mathlib.Core.Path.{_≡_}
 use Prim.Native.Nat.{ℕ}
 use lib.IntN.{ℤ}
@@ -15,7 +15,6 @@ use Rattle.entries.specs.declared.entry.Entry.{Entry}
 use Rattle.entries.specs.declared.entry.Entry.the-variants.{Deposit, Order}
 use Rattle.entries.specs.declared.entry.Figures.{Figures}
 use Rattle.entries.specs.declared.entry.Underlying.{Underlying}
-use Rattle.writing.specs.Writing.{recordOf}
 use Rattle.account.specs.DayEnd.{dailyZero}
 use Rattle.account.specs.Money.{availableOf}
 use Rattle.account.specs.Opening.{opening}
@@ -29,6 +28,7 @@ use Rattle.account.specs.declared.judged.Verdict.the-variants.{Accepted, Refuse
 use Rattle.account.specs.declared.tables.Tables.{Tables}
 use Rattle.desk.proofs.run_list.Reads as run-list
 use Rattle.demands.specs.Gift.{Desk, richer}
+use Rattle.demands.specs.Records.{recordsOf}
 
 -- "one with a single fixed answer": one verdict, and one made-up account with the opening's cash in it
 abbrev pub alwaysSame : Verdict → Account → Desk
@@ -71,11 +71,6 @@ shownEntries =
     ∷ (Order (record { number = 1; contract = 0; kind = BuyOpen; quantity = 1; price = 1 }), noFigures)
     ∷ (Order (record { number = 2; contract = 0; kind = BuyOpen; quantity = 1; price = 1 }), noFigures)
     ∷ []
-
--- the records of a list, one after the other
-abbrev pub recordsOf : List (Entry × Figures) → List ℕ
-recordsOf [] = []
-recordsOf (e ∷ es) = recordOf (e .0) (e .1) ++ recordsOf es
 
 -- what a caller finds in the lent slices where a desk makes this of a list
 pub record Tells (outcomes : List Outcome) (numbers : List ℕ) (sums : List ℤ) : Type 0 where
