@@ -1,0 +1,89 @@
+-- A list run from its records is the list run entry by entry: each record reads back as its entry wherever it stands, and entering an entry in an open book is its step.
+use mathlib.Core.List.{List, [], _∷_, _++_, append-assoc, map}
+use mathlib.Core.Path.{_≡_, refl, sym, ap, ap₂, _∙_}
+use Prim.Native.Nat.{ℕ, _+_, _<_}
+use native.Mathlib.Omega.{arith}
+use lib.IntN.{ℤ}
+use lib.ListN.{length, length-append}
+use Rattle.entries.specs.declared.entry.Entry.{Entry}
+use Rattle.entries.specs.declared.entry.Entry.the-variants.{Deposit, Withdraw, Lock, Unlock, Order, Fill, Cancel, DayEnd, Underlying, Contract, Opening}
+use Rattle.entries.specs.declared.entry.Figures.{Figures}
+use Rattle.reading.specs.Reading.{readAt}
+use Rattle.reading.specs.declared.Reading.{Reading}
+use Rattle.writing.specs.Writing.{lengthFor, recordOf}
+use Rattle.account.specs.Opening.{opening}
+use Rattle.account.specs.Steps.{accountAfter, outcome, refusalOf, run, step, tablesAfter}
+use Rattle.account.specs.Verdicts.{numberIn}
+use Rattle.account.specs.declared.account.Account.{Account}
+use Rattle.account.specs.declared.judged.Outcome.{Outcome}
+use Rattle.account.specs.declared.judged.Verdict.{Verdict}
+use Rattle.account.specs.declared.judged.Verdict.the-variants.{Accepted, Refused}
+use Rattle.account.specs.declared.tables.Tables.{Tables}
+use Rattle.rows.specs.Given.{listVerdict}
+use Rattle.set_up.specs.Stages.{bookAfter, entered, enteredAs, recordVerdict}
+use Rattle.set_up.specs.declared.stages.Book.{Book}
+use Rattle.set_up.specs.declared.stages.Entered.{Entered}
+use Rattle.set_up.specs.declared.stages.Stage.the-variants.{Entries}
+use Rattle.desk.specs.Runs.{Ran, availableIn, listBy, listRun, runFrom}
+use Rattle.demands.specs.Each.{Each}
+use Rattle.demands.specs.Records.{Carried, answerOf, recordsOf}
+use Rattle.demands.proofs.RunsTold.{read-goes-on}
+use Rattle.demands.proofs.WrittenRead.{record-length, written-read}
+
+-- an open book
+abbrev inHand : Tables → Account → Book
+inHand t a = record { stage = Entries; tables = t; account = a }
+
+abbrev asEntered : Outcome → Entered
+asEntered after = record { verdict = after .verdict; book = inHand (after .tables) (after .account) }
+
+module _ (t : Tables) (a : Account) (f : Figures) where
+  by-verdict : (v : Verdict) (t' : Tables) (a' : Account) → enteredAs v (inHand t a) (inHand t' a') ≡ asEntered (outcome v t a t' a')
+  by-verdict Accepted t' a' = refl
+  by-verdict (Refused why) t' a' = refl
+
+  stepping : (entry : Entry) → enteredAs (refusalOf t a entry f) (inHand t a) (inHand (tablesAfter t entry f) (accountAfter t a entry f)) ≡ asEntered (step t a entry f)
+  unfolding step
+  stepping entry = by-verdict (refusalOf t a entry f) (tablesAfter t entry f) (accountAfter t a entry f)
+
+  -- what belongs to set-up is out of its place in either
+  entering : (entry : Entry) → entered (inHand t a) entry f ≡ asEntered (step t a entry f)
+  unfolding entered recordVerdict bookAfter step refusalOf
+  entering (Deposit amount) = stepping (Deposit amount)
+  entering (Withdraw amount) = stepping (Withdraw amount)
+  entering (Lock u units) = stepping (Lock u units)
+  entering (Unlock u units) = stepping (Unlock u units)
+  entering (Order o) = stepping (Order o)
+  entering (Fill fill) = stepping (Fill fill)
+  entering (Cancel number) = stepping (Cancel number)
+  entering (DayEnd n m) = stepping (DayEnd n m)
+  entering (Underlying row) = refl
+  entering (Contract row) = refl
+  entering (Opening cash) = refl
+
+from : (before : List ℕ) (t : Tables) (a : Account) (entries : List (Entry × Figures)) → Each (λ e. Carried (e .0) (e .1)) entries
+    → runFrom (length entries) (before ++ recordsOf entries) (length before) (inHand t a) .answers ≡ map answerOf (run t a entries)
+unfolding runFrom run
+from before t a [] carried = refl
+from before t a (e ∷ es) (carried, rest) =
+    let record₀ = recordOf (e .0) (e .1) in
+    let bytes = before ++ (record₀ ++ recordsOf es) in
+    let len = lengthFor (e .0) in
+    let after = step t a (e .0) (e .1) in
+    let before' = before ++ record₀ in
+    let read = written-read (e .0) (e .1) before (recordsOf es) (carried .typed) (carried .counts) in
+    let found = ap (λ (r : Reading). r .answer) read in
+    let figures : readAt bytes (length before) .figures ≡ e .1 = ap (λ (r : Reading). r .figures) read ∙ carried .kept in
+    let tell : Entered → List (ℕ × ℤ) = λ led. (numberIn (led .verdict), availableIn (led .book)) ∷ runFrom (length es) bytes (length before + len) (led .book) .answers in
+    let long = record-length (e .0) (e .1) (carried .typed) (carried .counts) in
+    let next : length before + len ≡ length before' = omega (arith, length-append before record₀, long) in
+    let there : length before < length bytes = omega (arith, length-append before (record₀ ++ recordsOf es), length-append record₀ (recordsOf es), long) in
+    ap (λ (r : Ran). r .answers) (read-goes-on (length es) bytes (length before) (inHand t a) there (e .0) len found)
+    ∙ ap tell (ap (entered (inHand t a) (e .0)) figures ∙ entering t a (e .1) (e .0))
+    ∙ ap₂ (λ (s : List ℕ) (place : ℕ). answerOf after ∷ runFrom (length es) s place (inHand (after .tables) (after .account)) .answers) (sym (append-assoc before record₀ (recordsOf es))) next
+    ∙ ap (answerOf after ∷_) (from before' (after .tables) (after .account) es rest)
+
+pub records-run : (t : Tables) (cash : ℕ) (entries : List (Entry × Figures)) → listVerdict t cash ≡ Accepted → Each (λ e. Carried (e .0) (e .1)) entries
+    → listRun t cash (length entries) (recordsOf entries) .answers ≡ map answerOf (run t (opening cash) entries)
+records-run t cash entries accepted carried =
+    ap (λ (v : Verdict). listBy v t cash (length entries) (recordsOf entries) .answers) accepted ∙ from [] t (opening cash) entries carried
