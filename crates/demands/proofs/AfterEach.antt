@@ -19,7 +19,7 @@ use Rattle.demands.specs.EveryEntry.{Answered}
 use Rattle.demands.proofs.OneAnswer.{answer-told}
 
 -- the k-th answer of a run, and what it stands for between two runs
-abbrev pub said : Ran → ℕ → ℕ × ℤ
+abbrev said : Ran → ℕ → ℕ × ℤ
 said run k = getD (run .answers) k (0, pos 0)
 
 abbrev pub Between : List ℕ → Ran → Ran → ℕ × ℤ → Type 0

@@ -1,11 +1,11 @@
 -- After every entry of every list and every book: what was written at a place is the answer to its record, and that is as document 01 has it.
 use denote.Ref.{now}
 use mathlib.Core.Path.{_≡_, refl, sym, ap, subst, _∙_}
-use mathlib.Core.List.{List, map, _++_}
+use mathlib.Core.List.{List}
 use Prim.Native.Nat.{ℕ, suc, _<_}
 use native.Mathlib.Omega.{arith}
 use lib.IntN.{ℤ, pos}
-use lib.ListN.{drop, getD, length, length-map, List·getD-append, List·getD-map}
+use lib.ListN.{getD, length}
 use Rattle.reading.specs.Reading.{readAt}
 use Rattle.account.specs.declared.judged.Verdict.{Verdict}
 use Rattle.account.specs.declared.judged.Verdict.the-variants.{Accepted, Refused}
@@ -21,16 +21,8 @@ use Rattle.desk.proofs.Started.{Leaves}
 use Rattle.desk.proofs.run_book.Reads as run-book
 use Rattle.desk.proofs.run_list.Reads as run-list
 use Rattle.demands.specs.EveryEntry.{Answered}
-use Rattle.demands.proofs.AfterEach.{Between, after-each, as-answered, said}
-
--- a slice has the answers from its first place on
-answer-at : {A : Type 0} (part : ℕ × ℤ → A) (run : Ran) (lent left : List A) → left ≡ map part (run .answers) ++ drop (length (run .answers)) lent
-    → (k : ℕ) → k < length (run .answers) → getD left k (part (0, pos 0)) ≡ part (said run k)
-answer-at part run lent left e k few =
-    let many = length-map (run .answers) part in
-    ap (λ l. getD l k (part (0, pos 0))) e
-    ∙ List·getD-append (map part (run .answers)) _ (part (0, pos 0)) k (omega (arith, few, many))
-    ∙ List·getD-map part (run .answers) k (0, pos 0)
+use Rattle.demands.proofs.AfterEach.{Between, after-each, as-answered}
+use Rattle.demands.proofs.LentSlices.{answer-at}
 
 module _ (n : ℕ) (s : List ℕ) (r : Run) (numbers₀ numbers : List ℕ) (sums₀ sums : List ℤ) where
   run-after-each : (start : Book) → SoundBook start → Leaves Accepted (runFrom n s 0 start) r numbers₀ numbers sums₀ sums → (k : ℕ) → k < r .answered
@@ -38,8 +30,8 @@ module _ (n : ℕ) (s : List ℕ) (r : Run) (numbers₀ numbers : List ℕ) (sum
   run-after-each start sound left k answered =
       let whole = runFrom n s 0 start in
       let few : k < length (whole .answers) = subst (λ (run : Run). k < run .answered) (left .0) answered in
-      let number = answer-at (λ answer. answer .0) whole numbers₀ numbers (left .1 .0) k few in
-      let sum = answer-at (λ answer. answer .1) whole sums₀ sums (left .1 .1) k few in
+      let number = answer-at (λ answer. answer .0) (whole .answers) numbers₀ numbers (left .1 .0) k few in
+      let sum = answer-at (λ answer. answer .1) (whole .answers) sums₀ sums (left .1 .1) k few in
       subst (Between s (runFrom k s 0 start) (runFrom (suc k) s 0 start)) (λ i. (sym number i, sym sum i)) (after-each k n s 0 start sound few)
 
   list-each : (v : Verdict) (t : Tables) (cash : ℕ) → Leaves v (listBy v t cash n s) r numbers₀ numbers sums₀ sums → v ≡ Accepted → SoundBook (opened t cash) → (k : ℕ) → k < r .answered

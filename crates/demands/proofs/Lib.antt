@@ -8,6 +8,7 @@ pub mod EveryInput
 pub mod GiftOfLists
 pub mod GiftOfRuns
 pub mod LentBuffer
+pub mod LentSlices
 pub mod OneAnswer
 pub mod OneOutcome
 pub mod OrderToo

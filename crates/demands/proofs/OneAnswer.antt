@@ -4,7 +4,6 @@ use Prim.Native.Nat.{ℕ}
 use native.Mathlib.Omega.{arith}
 use lib.ListN.{List·getD-map}
 use Rattle.terms.specs.Refusals.{numberOf}
-use Rattle.terms.specs.declared.refusal.Refusal.{Refusal}
 use Rattle.rules.specs.Netting.{againstCovered, againstShort, netted}
 use Rattle.entries.specs.declared.entry.Entry.{Entry}
 use Rattle.entries.specs.declared.entry.Entry.the-variants.{DayEnd}
