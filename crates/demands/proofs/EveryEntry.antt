@@ -1,30 +1,72 @@
--- After every entry of every list and every book: a run with one place more is the run with one record more.
+-- After every entry of every list and every book: what was written at a place is the answer to its record, and that is as document 01 has it.
 use denote.Ref.{now}
+use mathlib.Core.Path.{_≡_, refl, sym, ap, subst, _∙_}
 use mathlib.Core.List.{List}
-use mathlib.Core.Path.{_≡_}
-use Prim.Native.Nat.{ℕ, suc, _<_, _≤_}
-use lib.IntN.{pos}
-use lib.ListN.{getD}
+use Prim.Native.Nat.{ℕ, suc, _<_}
+use native.Mathlib.Omega.{arith}
+use lib.IntN.{ℤ, pos}
+use lib.ListN.{getD, length}
 use Rattle.reading.specs.Reading.{readAt}
-use Rattle.account.specs.declared.judged.Verdict.the-variants.{Accepted}
-use Rattle.desk.specs.Runs.{Ran, bookRun, listRun}
+use Rattle.account.specs.declared.judged.Verdict.{Verdict}
+use Rattle.account.specs.declared.judged.Verdict.the-variants.{Accepted, Refused}
+use Rattle.account.specs.declared.tables.Tables.{Tables}
+use Rattle.rows.specs.Given.{listVerdict}
+use Rattle.set_up.specs.Sound.{SoundBook}
+use Rattle.set_up.specs.Stages.{newBook, opened}
+use Rattle.set_up.specs.declared.stages.Book.{Book}
+use Rattle.set_up.proofs.EnteredSound.{list-sound, new-sound}
+use Rattle.desk.specs.Runs.{Ran, bookRun, listBy, listRun, runFrom, told}
+use Rattle.desk.specs.declared.Run.{Run}
+use Rattle.desk.proofs.Started.{Leaves}
 use Rattle.desk.proofs.run_book.Reads as run-book
 use Rattle.desk.proofs.run_list.Reads as run-list
 use Rattle.demands.specs.EveryEntry.{Answered}
+use Rattle.demands.proofs.AfterEach.{Between, after-each, as-answered}
+use Rattle.demands.proofs.LentSlices.{answer-at}
+
+module _ (n : ℕ) (s : List ℕ) (r : Run) (numbers₀ numbers : List ℕ) (sums₀ sums : List ℤ) where
+  run-after-each : (start : Book) → SoundBook start → Leaves Accepted (runFrom n s 0 start) r numbers₀ numbers sums₀ sums → (k : ℕ) → k < r .answered
+      → Between s (runFrom k s 0 start) (runFrom (suc k) s 0 start) (getD numbers k 0, getD sums k (pos 0))
+  run-after-each start sound left k answered =
+      let whole = runFrom n s 0 start in
+      let few : k < length (whole .answers) = subst (λ (run : Run). k < run .answered) (left .0) answered in
+      let number = answer-at (λ answer. answer .0) (whole .answers) numbers₀ numbers (left .1 .0) k few in
+      let sum = answer-at (λ answer. answer .1) (whole .answers) sums₀ sums (left .1 .1) k few in
+      subst (Between s (runFrom k s 0 start) (runFrom (suc k) s 0 start)) (λ i. (sym number i, sym sum i)) (after-each k n s 0 start sound few)
+
+  list-each : (v : Verdict) (t : Tables) (cash : ℕ) → Leaves v (listBy v t cash n s) r numbers₀ numbers sums₀ sums → v ≡ Accepted → SoundBook (opened t cash) → (k : ℕ) → k < r .answered
+      → Between s (listBy v t cash k s) (listBy v t cash (suc k) s) (getD numbers k 0, getD sums k (pos 0))
+  list-each Accepted t cash left accepted sound = run-after-each (opened t cash) sound left
+  list-each (Refused why) t cash left accepted sound = let never : _≡_ {A = ℕ} 0 1 = cc in absurd (omega arith)
+
+-- what is returned of a run that ended with its last answer
+returned : (v : Verdict) (r : Run) (runs : ℕ → Ran) (n : ℕ) → runs n ≡ runs (length (runs n .answers)) → r ≡ told v (runs n)
+    → let after = runs (r .answered) in (r .book ≡ after .book) × (r .place ≡ after .place)
+returned v r runs n same e =
+    let all : r ≡ told v (runs (r .answered)) = e ∙ ap (told v) same ∙ ap (λ (run : Run). told v (runs (run .answered))) (sym e) in
+    (ap (λ (run : Run). run .book) all, ap (λ (run : Run). run .place) all)
+
+list-as-answered : (v : Verdict) (t : Tables) (cash n : ℕ) (s : List ℕ) → listBy v t cash n s ≡ listBy v t cash (length (listBy v t cash n s .answers)) s
+list-as-answered Accepted t cash n s = as-answered n s 0 (opened t cash)
+list-as-answered (Refused why) t cash n s = refl
 
 pub book-after-each : (κs : _) (a : _) (r : _) (s : _) → run-book.Post κs a r s → (k : ℕ) → k < r .answered
     → let bytes = now (a .0) in
     Answered (bookRun k bytes .book) (bookRun (suc k) bytes .book) (readAt bytes (bookRun k bytes .place)) (getD (now (s .1 .0)) k 0) (getD (now (s .1 .1 .0)) k (pos 0))
-book-after-each κs a r s p k answered = ?
+book-after-each κs a r s p = run-after-each _ _ r _ _ _ _ newBook new-sound p
 
 -- what is returned is the book after the last answered record
 pub book-returned : (κs : _) (a : _) (r : _) (s : _) → run-book.Post κs a r s → let after = bookRun (r .answered) (now (a .0)) in (r .book ≡ after .book) × (r .place ≡ after .place)
-book-returned κs a r s p = ?
+book-returned κs a r s p = returned Accepted r (λ k. bookRun k (now (a .0))) _ (as-answered _ (now (a .0)) 0 newBook) (p .0)
 
-pub list-after-each : (κs : _) (a : _) (r : _) (s : _) → run-list.Post κs a r s → r .verdict ≡ Accepted → (k : ℕ) → k < r .answered
+-- of tables that have as many rows as their type says: every list's do
+pub list-after-each : (κs : _) (a : _) (r : _) (s : _) → run-list.Post κs a r s → r .verdict ≡ Accepted → length (a .0 .underlyings) ≡ 8 → length (a .0 .contracts) ≡ 64 → (k : ℕ) → k < r .answered
     → let runs : ℕ → Ran = λ k. listRun (a .0) (a .1 .0) k (now (a .1 .1 .0)) in
     Answered (runs k .book) (runs (suc k) .book) (readAt (now (a .1 .1 .0)) (runs k .place)) (getD (now (s .1 .1 .1 .0)) k 0) (getD (now (s .1 .1 .1 .1 .0)) k (pos 0))
-list-after-each κs a r s p accepted k answered = ?
+list-after-each κs a r s p accepted underlyings contracts =
+    let given = sym (ap (λ (run : Run). run .verdict) (p .0)) ∙ accepted in
+    list-each _ _ r _ _ _ _ _ _ _ p given (list-sound _ _ underlyings contracts given)
 
 pub list-returned : (κs : _) (a : _) (r : _) (s : _) → run-list.Post κs a r s → let after = listRun (a .0) (a .1 .0) (r .answered) (now (a .1 .1 .0)) in (r .book ≡ after .book) × (r .place ≡ after .place)
-list-returned κs a r s p = ?
+list-returned κs a r s p =
+    returned (listVerdict (a .0) (a .1 .0)) r (λ k. listRun (a .0) (a .1 .0) k (now (a .1 .1 .0))) _ (list-as-answered (listVerdict (a .0) (a .1 .0)) (a .0) (a .1 .0) _ (now (a .1 .1 .0))) (p .0)

@@ -1,41 +1,146 @@
 -- Every input gets an answer, by number: each public contract asks nothing, gives one of the paper's numbers, and where it refuses leaves what was lent as it was.
 use denote.Ref.{now}
-use mathlib.Core.List.{List, [], _∷_}
-use mathlib.Core.Path.{_≡_}
-use Prim.Native.Nat.{ℕ, suc}
-use lib.ListN.{drop, getD, take}
+use mathlib.Core.Bool.{Bool, true, false, cond, _&&_}
+use mathlib.Core.List.{[], _∷_}
+use mathlib.Core.Path.{_≡_, refl, sym, ap, subst, _∙_}
+use Prim.Native.Nat.{ℕ}
+use native.Mathlib.Omega.{arith}
+use lib.Dec.{ltb}
+use lib.ListN.{drop, length, take}
+use lib.Seq.{drop-at}
+use Rattle.terms.specs.Ranges.{rangeOf, _∈_}
+use Rattle.terms.specs.declared.measure.Measure.the-variants.{OpeningCash}
 use Rattle.terms.specs.declared.refusal.Refusal.{Refusal}
+use Rattle.terms.specs.declared.refusal.Refusal.the-variants.{BufferTooShort, Misshapen, OutOfPlace, OutOfRange}
 use Rattle.rules.specs.Charges as charges
+use Rattle.rules.specs.declared.Charge.{Charge}
 use Rattle.rules.proofs.margin.Reads as margin
 use Rattle.rules.proofs.premium.Reads as premium
 use Rattle.rules.proofs.net.Reads as net
+use Rattle.entries.specs.declared.entry.Entry.{Entry}
 use Rattle.reading.specs.Reading as reading
-use Rattle.reading.specs.declared.Answer.the-variants as Answer·of
+use Rattle.reading.specs.Reading.{kindAt}
+use Rattle.reading.specs.declared.Reading.{Reading}
 use Rattle.reading.proofs.read.Reads as read
 use Rattle.writing.specs.Writing as writing
-use Rattle.writing.specs.Writing.{lengthFor}
+use Rattle.writing.specs.Writing.{bufferAfter, countsBarred, lengthFor, recordOf, writtenFor}
+use Rattle.writing.specs.declared.Written.{Written}
+use Rattle.writing.specs.declared.Written.the-variants as Written·of
 use Rattle.writing.proofs.write.Reads as write
-use Rattle.account.specs.Verdicts.{numberIn}
-use Rattle.account.specs.declared.judged.Verdict.the-variants.{Accepted}
-use Rattle.desk.specs.Runs.{placesIn}
+use Rattle.account.specs.Verdicts.{_else_then_, numberIn}
+use Rattle.account.specs.declared.judged.Verdict.the-variants.{Accepted, Refused}
+use Rattle.account.specs.declared.tables.Tables.{Tables}
+use Rattle.rows.specs.Given.{listVerdict, tablesAllowed}
+use Rattle.set_up.specs.Stages.{newBook}
+use Rattle.desk.specs.Runs.{bookRun, listRun, placesIn}
+use Rattle.desk.specs.declared.Run.{Run}
 use Rattle.desk.proofs.run_book.Reads as run-book
 use Rattle.desk.proofs.run_list.Reads as run-list
-use Rattle.demands.specs.Each.{Each, OneOf}
+use Rattle.demands.specs.Each.{Each, OneOf, paper}
+use Rattle.demands.specs.InOrder.{readingTests, writingTests}
+use Rattle.demands.specs.Records.{Typed}
+use Rattle.demands.proofs.PaperNumbers.{chosen, first-among}
+use Rattle.demands.proofs.RecordsTold.{read-number, write-number, write-untouched}
+use Rattle.demands.proofs.RunsTold.{answered-numbers, beyond-answered, list-paper, paper-numbers, refused-list}
+use Rattle.demands.proofs.Told.{margin-says, premium-says}
+use Rattle.demands.proofs.WrittenRead.{record-length}
 
 -- "nobody has to check first"
 pub margin-asks : (κs : _) (a : _) → margin.Pre κs a
-margin-asks κs a = ?
+margin-asks κs a = tt
+
+pub premium-asks : (κs : _) (a : _) → premium.Pre κs a
+premium-asks κs a = tt
+
+pub net-asks : (κs : _) (a : _) → net.Pre κs a
+net-asks κs a = tt
+
+pub read-asks : (κs : _) (a : _) → read.Pre κs a
+read-asks κs a = tt
+
+pub write-asks : (κs : _) (a : _) → write.Pre κs a
+write-asks κs a = tt
 
 pub run-list-asks : (κs : _) (a : _) → run-list.Pre κs a
-run-list-asks κs a = ?
+run-list-asks κs a = tt
+
+pub run-book-asks : (κs : _) (a : _) → run-book.Pre κs a
+run-book-asks κs a = tt
 
 -- "refuses bad input by number"
-pub margin-number : (κs : _) (a : _) (r : _) (s : _) → margin.Post κs a r s → OneOf (0 ∷ 4 ∷ []) (charges.numberIn r)
-margin-number κs a r s p = ?
+charge-number : (allowed : Bool) (charge r : Charge) → r ≡ charge → charges.numberIn charge ≡ cond allowed 0 4 → OneOf (0 ∷ 4 ∷ []) (charges.numberIn r)
+charge-number allowed charge r e says = subst (OneOf (0 ∷ 4 ∷ [])) (sym (ap charges.numberIn e ∙ says)) (chosen (0 ∷ 4 ∷ []) allowed 0 4 refl refl)
 
-pub read-number-among : (κs : _) (a : _) (r : _) (s : _) → read.Post κs a r s → OneOf (0 ∷ 1 ∷ 2 ∷ 3 ∷ []) (reading.numberIn (r .answer))
-read-number-among κs a r s p = ?
+pub margin-numbers : (κs : _) (a : _) (r : _) (s : _) → margin.Post κs a r s → OneOf (0 ∷ 4 ∷ []) (charges.numberIn r)
+margin-numbers κs a r s p = charge-number (charges.marginAllowed (a .1 .1 .0) (a .1 .1 .1 .0) (a .1 .1 .1 .1 .0) (a .1 .1 .1 .1 .1 .0)) _ r p (margin-says (a .0) (a .1 .0) _ _ _ _ .0)
+
+pub premium-numbers : (κs : _) (a : _) (r : _) (s : _) → premium.Post κs a r s → OneOf (0 ∷ 4 ∷ []) (charges.numberIn r)
+premium-numbers κs a r s p = charge-number (charges.premiumAllowed (a .0) (a .1 .0)) _ r p (premium-says (a .0) (a .1 .0) .0)
+
+pub read-numbers : (κs : _) (a : _) (r : _) (s : _) → read.Post κs a r s → OneOf (0 ∷ 1 ∷ 2 ∷ 3 ∷ []) (reading.numberIn (r .answer))
+read-numbers κs a r s p =
+    let rest = drop (a .1 .0) (now (a .0)) in
+    let said = ap (λ (x : Reading). reading.numberIn (x .answer)) p ∙ read-number (now (a .0)) (a .1 .0) in
+    subst (OneOf (0 ∷ 1 ∷ 2 ∷ 3 ∷ [])) (sym said) (first-among (0 ∷ 1 ∷ 2 ∷ 3 ∷ []) (readingTests rest (kindAt rest)) refl search)
+
+pub write-numbers : (κs : _) (a : _) (r : _) (s : _) → write.Post κs a r s → OneOf (0 ∷ 3 ∷ 17 ∷ []) (writing.numberIn r)
+write-numbers κs a r s p =
+    let said = ap writing.numberIn (p .0) ∙ write-number (a .0) (length (now (a .1 .1 .0))) in
+    subst (OneOf (0 ∷ 3 ∷ 17 ∷ [])) (sym said) (first-among (0 ∷ 3 ∷ 17 ∷ []) (writingTests (a .0) (length (now (a .1 .1 .0)))) refl search)
+
+list-verdict-number : (t : Tables) (cash : ℕ) → OneOf (0 ∷ 4 ∷ 5 ∷ []) (numberIn (listVerdict t cash))
+unfolding listVerdict
+list-verdict-number t cash = go (ltb 0 (t .n)) (tablesAllowed t && (cash ∈ rangeOf OpeningCash))
+  where
+    go : (some allowed : Bool) → OneOf (0 ∷ 4 ∷ 5 ∷ []) (numberIn (some else OutOfPlace then allowed else OutOfRange then Accepted))
+    go false allowed = refl
+    go true false = refl
+    go true true = refl
+
+pub list-verdict-numbers : (κs : _) (a : _) (r : _) (s : _) → run-list.Post κs a r s → OneOf (0 ∷ 4 ∷ 5 ∷ []) (numberIn (r .verdict))
+list-verdict-numbers κs a r s p = subst (λ (run : Run). OneOf (0 ∷ 4 ∷ 5 ∷ []) (numberIn (run .verdict))) (sym (p .0)) (list-verdict-number (a .0) (a .1 .0))
+
+pub book-verdict : (κs : _) (a : _) (r : _) (s : _) → run-book.Post κs a r s → r .verdict ≡ Accepted
+book-verdict κs a r s p = ap (λ (run : Run). run .verdict) (p .0)
+
+pub list-numbers : (κs : _) (a : _) (r : _) (s : _) → run-list.Post κs a r s → Each (OneOf paper) (take (r .answered) (now (s .1 .1 .1 .0)))
+list-numbers κs a r s p = answered-numbers _ (listRun (a .0) (a .1 .0) (placesIn (now (a .1 .1 .1 .0)) (now (a .1 .1 .1 .1 .0))) (now (a .1 .1 .0))) r _ _ _ _ p (list-paper (listVerdict (a .0) (a .1 .0)) (a .0) (a .1 .0) _ _)
+
+pub book-numbers : (κs : _) (a : _) (r : _) (s : _) → run-book.Post κs a r s → Each (OneOf paper) (take (r .answered) (now (s .1 .0)))
+book-numbers κs a r s p = answered-numbers _ (bookRun (placesIn (now (a .1 .0)) (now (a .1 .1 .0))) (now (a .0))) r _ _ _ _ p (paper-numbers _ _ 0 newBook)
 
 -- "and a refused entry changes neither the account nor one byte lent to us, except for the answer"
 pub write-refused : (κs : _) (a : _) (r : _) (s : _) → write.Post κs a r s → (writing.numberIn r ≡ 0 → ⊥) → now (s .1 .1 .0) ≡ now (a .1 .1 .0)
-write-refused κs a r s p refused = ?
+write-refused κs a r s p refused = p .1 ∙ write-untouched r _ _ refused
+
+-- the answer says how many bytes were written, and they are the record's
+written-all : (entry : Entry) (size n : ℕ) → writtenFor entry size ≡ Written·of.Bytes n → (countsBarred entry ≡ false) × (n ≡ lengthFor entry)
+unfolding writtenFor
+written-all entry size n = go (countsBarred entry) (ltb size (lengthFor entry))
+  where
+    go : (barred short : Bool) → cond barred (Written·of.Refused Misshapen) (cond short (Written·of.Refused BufferTooShort) (Written·of.Bytes (lengthFor entry))) ≡ Written·of.Bytes n
+        → (barred ≡ false) × (n ≡ lengthFor entry)
+    go true short e = let never : _≡_ {A = ℕ} 0 1 = cc in absurd (omega arith)
+    go false true e = let never : _≡_ {A = ℕ} 0 1 = cc in absurd (omega arith)
+    go false false e = (refl, cc)
+
+-- "else only the record's bytes"
+pub write-rest : (κs : _) (a : _) (r : _) (s : _) → write.Post κs a r s → Typed (a .0) (a .1 .0) → (n : ℕ) → r ≡ Written·of.Bytes n → drop n (now (s .1 .1 .0)) ≡ drop n (now (a .1 .1 .0))
+write-rest κs a r s p typed n e =
+    let all = written-all (a .0) (length (now (a .1 .1 .0))) n (sym (p .0) ∙ e) in
+    ap (drop n) (p .1 ∙ ap (λ (w : Written). bufferAfter w (recordOf (a .0) (a .1 .0)) (now (a .1 .1 .0))) e)
+    ∙ drop-at (recordOf (a .0) (a .1 .0)) _ n (record-length (a .0) (a .1 .0) typed (all .0) ∙ sym (all .1))
+
+-- a list that is refused whole
+pub list-refused : (κs : _) (a : _) (r : _) (s : _) → run-list.Post κs a r s → (why : Refusal) → r .verdict ≡ Refused why
+    → (now (s .1 .1 .1 .0) ≡ now (a .1 .1 .1 .0)) × (now (s .1 .1 .1 .1 .0) ≡ now (a .1 .1 .1 .1 .0)) × (r .answered ≡ 0)
+list-refused κs a r s p = refused-list _ _ r _ _ _ _ _ _ _ p
+
+-- behind the answers every place is as it was lent
+pub list-beyond : (κs : _) (a : _) (r : _) (s : _) → run-list.Post κs a r s
+    → let k = r .answered in (drop k (now (s .1 .1 .1 .0)) ≡ drop k (now (a .1 .1 .1 .0))) × (drop k (now (s .1 .1 .1 .1 .0)) ≡ drop k (now (a .1 .1 .1 .1 .0)))
+list-beyond κs a r s p = beyond-answered _ (listRun (a .0) (a .1 .0) (placesIn (now (a .1 .1 .1 .0)) (now (a .1 .1 .1 .1 .0))) (now (a .1 .1 .0))) r _ _ _ _ p
+
+pub book-beyond : (κs : _) (a : _) (r : _) (s : _) → run-book.Post κs a r s
+    → let k = r .answered in (drop k (now (s .1 .0)) ≡ drop k (now (a .1 .0))) × (drop k (now (s .1 .1 .0)) ≡ drop k (now (a .1 .1 .0)))
+book-beyond κs a r s p = beyond-answered _ (bookRun (placesIn (now (a .1 .0)) (now (a .1 .1 .0))) (now (a .0))) r _ _ _ _ p

@@ -1,4 +1,5 @@
 -- What this product promises, as theorems over the crates' definitions and over the contracts generated from their functions.
+pub mod AfterEach
 pub mod BooksTold
 pub mod DayEndLengths
 pub mod EntriesToo
@@ -7,11 +8,14 @@ pub mod EveryInput
 pub mod GiftOfLists
 pub mod GiftOfRuns
 pub mod LentBuffer
+pub mod LentSlices
 pub mod ListOfRecords
+pub mod OneAnswer
 pub mod OneOutcome
 pub mod OrderToo
 pub mod OrdersTold
 pub mod Packing
+pub mod PaperNumbers
 pub mod ReadBytes
 pub mod ReadWritten
 pub mod RecordsTold
