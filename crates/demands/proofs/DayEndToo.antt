@@ -33,7 +33,8 @@ none-roomier : Roomier noUnderlying noUnderlying
 none-roomier = record { class = refl; close = refl; rights = omega arith; total = omega arith; daily = omega arith }
 
 -- row beside row, and nothing past the last
-listed-roomier : (size : ℕ) (p q : ℕ → Underlying) → ((u : ℕ) → Roomier (p u) (q u)) → (u : ℕ) → Roomier (getD (listed size p) u noUnderlying) (getD (listed size q) u noUnderlying)
+listed-roomier : (size : ℕ) (p q : ℕ → Underlying) → ((u : ℕ) → Roomier (p u) (q u))
+    → (u : ℕ) → Roomier (getD (listed size p) u noUnderlying) (getD (listed size q) u noUnderlying)
 listed-roomier size p q each u =
     elim (decLt u size) [
       | yes h ↦ rw (listed-at size p u noUnderlying h, listed-at size q u noUnderlying h) (each u)

@@ -22,7 +22,7 @@ pub record Follows (X : ℕ) (first second : Outcome) : Type 0 where
   pub account : second .account ≡ richer X (first .account)
   pub tables : RoomierTables (first .tables) (second .tables)
 
--- a way to step that what is accepted follows
+-- a way to step: where the first account accepts an entry, what it leads the second to follows
 abbrev pub Leads : (Tables → Account → Entry → Figures → Outcome) → Type 0
 Leads lead =
     (X : ℕ) (t t' : Tables) (a : Account) (entry : Entry) (f : Figures) → RoomierTables t t'
@@ -31,7 +31,7 @@ Leads lead =
 pub richer-more : (X : ℕ) (a : Account) → XMore X a (richer X a)
 richer-more X a = record { positions = refl; orders = refl; margin = refl; locked = λ u. refl; available = more-cash (a .sheet) X }
 
--- an accepted entry's outcome is what it changes
+-- an outcome is accepted only where the verdict is, and is then what the entry changes
 outcome-accepted : (v : Verdict) (t t' : Tables) (a a' : Account) → outcome v t a t' a' .verdict ≡ Accepted → v ≡ Accepted
 outcome-accepted Accepted t t' a a' e = refl
 outcome-accepted (Refused why) t t' a a' e = e

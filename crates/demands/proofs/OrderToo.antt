@@ -55,7 +55,8 @@ pub record Easier (X : ℕ) (f f' : Facts) : Type 0 where
   pub limits : Roomier (f .limits) (f' .limits)
   pub others : f' ≡ eased X (f' .limits) f
 
-passes-eased : (X : ℕ) (limits : Underlying) (f : Facts) (o : Given.Order) → Roomier (f .limits) limits → (check : Check) → passes check f o ≡ true → passes check (eased X limits f) o ≡ true
+passes-eased : (X : ℕ) (limits : Underlying) (f : Facts) (o : Given.Order) → Roomier (f .limits) limits
+    → (check : Check) → passes check f o ≡ true → passes check (eased X limits f) o ≡ true
 passes-eased X limits f o r Values e = e
 passes-eased X limits f o r Number e = e
 passes-eased X limits f o r Places e = e
