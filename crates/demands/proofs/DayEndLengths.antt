@@ -15,7 +15,7 @@ use Rattle.entries.specs.declared.kind.Kind.the-variants.{DayEnd}
 use Rattle.entries.proofs.Limits.{counts-inside}
 use Rattle.entries.proofs.Runs.{total-fours}
 
-within : (x : ℕ) (range : Range) → range .0 ≤ x → x ≤ range .1 → (x ∈ range) ≡ true
+pub within : (x : ℕ) (range : Range) → range .0 ≤ x → x ≤ range .1 → (x ∈ range) ≡ true
 within x range from till = rw (le-leb _ _ from, le-leb _ _ till)
 
 pub day-end-lengths : (len : ℕ) → (lengthFits DayEnd len ≡ true) ↔ ((n : ℕ) × (m : ℕ) × (countsAllowed n m ≡ true) × (lengthOf DayEnd n m ≡ len))

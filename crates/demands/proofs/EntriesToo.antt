@@ -1,19 +1,46 @@
--- What the first account accepts the richer one accepts too, entry by entry.
-use mathlib.Core.Path.{_≡_}
+-- What the first account accepts the richer one accepts too, entry by entry: roomier tables are the first's relisted, and on those each kind of entry has its reason.
+use mathlib.Core.Path.{_≡_, subst}
+use mathlib.Core.List.{List}
 use Prim.Native.Nat.{ℕ}
+use native.Mathlib.Omega.{arith}
+use Rattle.terms.specs.declared.refusal.Refusal.the-variants.{OutOfPlace}
 use Rattle.entries.specs.declared.entry.Entry.{Entry}
+use Rattle.entries.specs.declared.entry.Entry.the-variants.{Deposit, Withdraw, Lock, Unlock, Order, Fill, Cancel, DayEnd, Underlying, Contract, Opening}
 use Rattle.entries.specs.declared.entry.Figures.{Figures}
-use Rattle.account.specs.Steps.{accountAfter, refusalOf, tablesAfter}
+use Rattle.entries.specs.declared.entry.Underlying as Given
+use Rattle.account.specs.Steps.{accountAfter, refusalOf}
 use Rattle.account.specs.declared.account.Account.{Account}
-use Rattle.account.specs.declared.judged.Verdict.the-variants.{Accepted}
+use Rattle.account.specs.declared.judged.Verdict.the-variants.{Accepted, Refused}
 use Rattle.account.specs.declared.tables.Tables.{Tables}
-use Rattle.demands.specs.Gift.{RoomFor, RoomierTables, richer}
+use Rattle.demands.specs.Gift.{RoomFor, RoomierTables}
+use Rattle.demands.proofs.DayEndToo.{day-end-too}
+use Rattle.demands.proofs.FillToo.{fill-too, cancel-too}
+use Rattle.demands.proofs.LocksToo.{lock-too, unlock-too}
+use Rattle.demands.proofs.OrderToo.{order-too}
+pub use Rattle.demands.proofs.Relisted.{Too}
+use Rattle.demands.proofs.Relisted.{relisted, roomier-relisted, relisted-roomier}
+use Rattle.demands.proofs.TransfersToo.{deposit-too, withdraw-too}
 
--- an entry on the richer account and the roomier tables: accepted, and what it leads to stands in the same relation
-pub record Too (X : ℕ) (t t' : Tables) (a : Account) (entry : Entry) (f : Figures) : Type 0 where
-  pub accepted : refusalOf t' (richer X a) entry f ≡ Accepted
-  pub account : accountAfter t' (richer X a) entry f ≡ richer X (accountAfter t a entry f)
-  pub tables : RoomierTables (tablesAfter t entry f) (tablesAfter t' entry f)
+-- a set-up record is out of its place and never accepted
+never-accepted : Refused OutOfPlace ≡ Accepted → ⊥
+never-accepted e = let never : _≡_ {A = ℕ} 0 1 = cc in omega arith
 
-pub entry-too : (X : ℕ) (t t' : Tables) (a : Account) (entry : Entry) (f : Figures) → RoomierTables t t' → refusalOf t a entry f ≡ Accepted → RoomFor X (accountAfter t a entry f) → Too X t t' a entry f
-entry-too X t t' a entry f roomier accepted room = ?
+module _ (X : ℕ) (t : Tables) (rows : List Given.Underlying) (roomier : RoomierTables t (relisted t rows)) (a : Account) (f : Figures) where
+  each-too : (entry : Entry) → refusalOf t a entry f ≡ Accepted → RoomFor X (accountAfter t a entry f) → Too X t (relisted t rows) a entry f
+  unfolding refusalOf
+  each-too (Deposit amount) e room = deposit-too X t rows roomier a f amount e room
+  each-too (Withdraw amount) e room = withdraw-too X t rows roomier a f amount e
+  each-too (Lock u units) e room = lock-too X t rows roomier a f u units e
+  each-too (Unlock u units) e room = unlock-too X t rows roomier a f u units e
+  each-too (Order o) e room = order-too X t rows roomier a f o e
+  each-too (Fill fill) e room = fill-too X t rows roomier a f fill e room
+  each-too (Cancel number) e room = cancel-too X t rows roomier a f number e
+  each-too (DayEnd n m) e room = day-end-too X t rows roomier a f n m e
+  each-too (Underlying row) e room = absurd (never-accepted e)
+  each-too (Contract row) e room = absurd (never-accepted e)
+  each-too (Opening cash) e room = absurd (never-accepted e)
+
+pub entry-too : (X : ℕ) (t t' : Tables) (a : Account) (entry : Entry) (f : Figures) → RoomierTables t t'
+    → refusalOf t a entry f ≡ Accepted → RoomFor X (accountAfter t a entry f) → Too X t t' a entry f
+entry-too X t t' a entry f roomier accepted room =
+    subst (λ (tables : Tables). Too X t tables a entry f) (roomier-relisted roomier) (each-too X t (t' .underlyings) (relisted-roomier roomier) a f entry accepted room)

@@ -1,15 +1,19 @@
 -- What this product promises, as theorems over the crates' definitions and over the contracts generated from their functions.
 pub mod AfterEach
 pub mod BooksTold
+pub mod ChecksToo
 pub mod DayEndLengths
+pub mod DayEndToo
 pub mod EntriesToo
 pub mod EveryEntry
 pub mod EveryInput
+pub mod FillToo
 pub mod GiftOfLists
 pub mod GiftOfRuns
 pub mod LentBuffer
 pub mod LentSlices
 pub mod ListOfRecords
+pub mod LocksToo
 pub mod OneAnswer
 pub mod OneOutcome
 pub mod OrderToo
@@ -19,10 +23,12 @@ pub mod PaperNumbers
 pub mod ReadBytes
 pub mod ReadWritten
 pub mod RecordsTold
+pub mod Relisted
 pub mod RunsTold
 pub mod ShutOut
 pub mod Stepped
 pub mod Told
+pub mod TransfersToo
 pub mod WhatFollows
 pub mod WorkedCases
 pub mod WrittenRead
