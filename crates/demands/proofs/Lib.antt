@@ -1,4 +1,5 @@
 -- What this product promises, as theorems over the crates' definitions and over the contracts generated from their functions.
+pub mod BooksBeside
 pub mod BooksTold
 pub mod DayEndLengths
 pub mod EntriesToo
