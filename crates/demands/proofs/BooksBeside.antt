@@ -5,7 +5,7 @@ use mathlib.Core.List.{List, [], _∷_}
 use Prim.Native.Nat.{ℕ, zero, suc, _+_, _≤_, _<_}
 use native.Mathlib.Omega.{arith}
 use borrow.Author.Tests.{le-leb}
-use lib.Dec.{leb, ltb}
+use lib.Dec.{ltb}
 use lib.ListN.{getD, length, length-set, set}
 use Rattle.terms.specs.declared.measure.Measure.the-variants.{OpeningCash}
 use Rattle.terms.specs.declared.refusal.Refusal.{Refusal}
@@ -20,15 +20,14 @@ use Rattle.entries.specs.declared.entry.Entry.the-variants.{Deposit, Withdraw, 
 use Rattle.entries.specs.declared.entry.Figures.{Figures}
 use Rattle.entries.specs.declared.entry.Underlying as Underlyings·of
 use Rattle.account.specs.Rows.{noUnderlying}
-use Rattle.account.specs.Sound.{contractAllowed, underlyingAllowed}
+use Rattle.account.specs.Sound.{underlyingAllowed}
 use Rattle.account.specs.Steps.{accountAfter, refusalOf}
 use Rattle.account.specs.Verdicts.{_else_then_}
 use Rattle.account.specs.declared.account.Account.{Account}
 use Rattle.account.specs.declared.judged.Verdict.{Verdict}
 use Rattle.account.specs.declared.judged.Verdict.the-variants.{Accepted, Refused}
-use Rattle.account.specs.declared.tables.Tables.{Tables}
 use Rattle.account.proofs.Passed.{went-on}
-use Rattle.set_up.specs.Stages.{bookAfter, contractVerdict, entered, enteredAs, inPlace, openingVerdict, recordVerdict, underlyingVerdict, withContract, withEntry, withUnderlying}
+use Rattle.set_up.specs.Stages.{bookAfter, contractVerdict, entered, enteredAs, inPlace, recordVerdict, underlyingVerdict, withEntry}
 use Rattle.set_up.specs.declared.stages.Book.{Book}
 use Rattle.set_up.specs.declared.stages.Stage.{Stage}
 use Rattle.set_up.specs.declared.stages.Stage.the-variants.{Underlyings, Contracts, Entries}
@@ -78,7 +77,7 @@ both-pass passed why rest e accepted = rw e accepted
 pub opening-within : (cash : ℕ) → cash ≤ 1_000_000_000_000_000 → (cash ∈ rangeOf OpeningCash) ≡ true
 opening-within cash few = rw (le-leb 0 cash (omega arith), le-leb cash 1_000_000_000_000_000 few) refl
 
-same-row : (p : Underlyings·of.Underlying) → Roomier p p
+pub same-row : (p : Underlyings·of.Underlying) → Roomier p p
 same-row p = record { class = refl; close = refl; rights = omega arith; total = omega arith; daily = omega arith }
 
 -- a row of set-up is in its place before the opening alone

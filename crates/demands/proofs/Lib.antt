@@ -15,6 +15,7 @@ pub mod Packing
 pub mod ReadBytes
 pub mod ReadWritten
 pub mod RecordsTold
+pub mod RunsBeside
 pub mod RunsTold
 pub mod ShutOut
 pub mod Stepped
