@@ -71,7 +71,7 @@ put-beside (x ∷ xs) (y ∷ ys) (suc m) p q roomier long so-far zero = so-far z
 put-beside (x ∷ xs) (y ∷ ys) (suc m) p q roomier long so-far (suc u) = put-beside xs ys m p q roomier (omega arith) (λ i. so-far (suc i)) u
 
 -- a check that passes and a verdict that accepts
-both-pass : (passed : Bool) (why : Refusal) (rest : Verdict) → passed ≡ true → rest ≡ Accepted → (passed else why then rest) ≡ Accepted
+pub both-pass : (passed : Bool) (why : Refusal) (rest : Verdict) → passed ≡ true → rest ≡ Accepted → (passed else why then rest) ≡ Accepted
 both-pass passed why rest e accepted = rw e accepted
 
 pub opening-within : (cash : ℕ) → cash ≤ 1_000_000_000_000_000 → (cash ∈ rangeOf OpeningCash) ≡ true

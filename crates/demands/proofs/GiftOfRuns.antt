@@ -11,7 +11,8 @@ use Rattle.entries.specs.declared.entry.Entry.{Entry}
 use Rattle.reading.specs.Reading.{readAt}
 use Rattle.account.specs.declared.judged.Verdict.{Verdict}
 use Rattle.account.specs.declared.judged.Verdict.the-variants.{Accepted}
-use Rattle.set_up.specs.Stages.{newBook, opened}
+use Rattle.rows.specs.Given.{listVerdict}
+use Rattle.set_up.specs.Stages.{newBook}
 use Rattle.set_up.specs.declared.stages.Book.{Book}
 use Rattle.set_up.specs.declared.stages.Stage.{Stage}
 use Rattle.set_up.specs.declared.stages.Stage.the-variants.{Entries}
@@ -24,6 +25,7 @@ use Rattle.demands.specs.Each.{Each}
 use Rattle.demands.specs.GiftRuns.{BookBeside, BooksAlike, FirstAccepts, GivenBeside, ReadAlike, SecondToo}
 use Rattle.demands.proofs.BooksBeside.{Abreast, Room, abreast-beside, same-row}
 use Rattle.demands.proofs.EveryEntry.{book-after-each, list-after-each}
+use Rattle.demands.proofs.ListsBeside.{list-accepted, list-few, list-steps}
 use Rattle.demands.proofs.RunsBeside.{AllAccepted, InStep, ReadsOn, both-so, together}
 use Rattle.demands.proofs.RunsTold.{read-goes-on}
 
@@ -45,9 +47,10 @@ more-available {X} {b} {b'} so stands =
 books-so : {X : ℕ} {b b' c c' : Book} → b ≡ c → b' ≡ c' → BookBeside X c c' → BookBeside X b b'
 books-so e e' so = rw (e, e') so
 
-held-too : (X n : ℕ) (runs runs' : ℕ → Ran) (r r' : Run) (numbers numbers' : List ℕ) (sums sums' : List ℤ) → Held runs n r numbers sums → Held runs' n r' numbers' sums' → r' .verdict ≡ Accepted
+held-too : {X n n' : ℕ} {runs runs' : ℕ → Ran} {r r' : Run} {numbers numbers' : List ℕ} {sums sums' : List ℤ} → Held runs n r numbers sums → Held runs' n' r' numbers' sums' → n' ≡ n → r' .verdict ≡ Accepted
     → ((k : ℕ) → k ≤ n → InStep X (runs k) (runs' k)) → SecondToo X runs runs' r r' numbers' sums sums'
-held-too X n runs runs' r r' numbers numbers' sums sums' first second accepted steps =
+held-too {X} {n} {n'} {runs} {runs'} {r} {r'} {numbers} {numbers'} {sums} {sums'} first other places accepted steps =
+    let second = subst (λ (n : ℕ). Held runs' n r' numbers' sums') places other in
     let whole = steps n (omega arith) in
     let same : r' .answered ≡ r .answered = second .answered ∙ whole .answered ∙ sym (first .answered) in
     let beside : (k : ℕ) → k ≤ r .answered → BookBeside X (runs k .book) (runs' k .book) = λ k few. abreast-beside (steps k (omega (arith, first .few)) .abreast) in
@@ -57,7 +60,8 @@ held-too X n runs runs' r r' numbers numbers' sums sums' first second accepted s
       place = second .place ∙ whole .place ∙ sym (first .place);
       all = subst (Each (λ number. number ≡ 0)) (sym (second .written)) (whole .all);
       after = beside;
-      available = λ k few stands. second .available k (omega (arith, same)) ∙ more-available (beside (suc k) few) stands ∙ ap (λ (sum : ℤ). sum +ℤ pos X) (sym (first .available k few));
+      available =
+          λ k few stands. second .available k (omega (arith, same)) ∙ more-available (beside (suc k) few) stands ∙ ap (λ (sum : ℤ). sum +ℤ pos X) (sym (first .available k few));
       returned = books-so (first .book) (second .book) (abreast-beside (whole .abreast));
     }
 
@@ -79,6 +83,17 @@ told-held runs n v r lent numbers sums is written few available =
       written = ap (take (r .answered)) written ∙ take-at said _ (r .answered) (length-map (runs n .answers) (λ answer. answer .0) ∙ sym answered);
       available = available;
     }
+
+book-held : (κs : _) (a : _) (r : _) (s : _) → run-book.Post κs a r s
+    → Held (λ k. bookRun k (now (a .0))) (placesIn (now (a .1 .0)) (now (a .1 .1 .0))) r (now (s .1 .0)) (now (s .1 .1 .0))
+book-held κs a r s p =
+    told-held _ _ Accepted r (now (a .1 .0)) _ _ (p .0) (p .1 .0) (few-answers _ (now (a .0)) 0 newBook) (λ k few. book-after-each κs a r s p k few .available)
+
+list-held : (κs : _) (a : _) (r : _) (s : _) → run-list.Post κs a r s → r .verdict ≡ Accepted
+    → Held (λ k. listRun (a .0) (a .1 .0) k (now (a .1 .1 .0))) (placesIn (now (a .1 .1 .1 .0)) (now (a .1 .1 .1 .1 .0))) r (now (s .1 .1 .1 .0)) (now (s .1 .1 .1 .1 .0))
+list-held κs a r s p accepted =
+    told-held _ _ (listVerdict (a .0) (a .1 .0)) r (now (a .1 .1 .1 .0)) _ _ (p .0) (p .1 .0) (list-few (a .0) (a .1 .0) (now (a .1 .1 .0)) (sym (ap (λ (run : Run). run .verdict) (p .0)) ∙ accepted) _)
+    (λ k few. list-after-each κs a r s p accepted k few .available)
 
 new-abreast : (X : ℕ) → Abreast X newBook newBook
 new-abreast X =
@@ -108,7 +123,13 @@ pub list-gift : (X : ℕ) (κs κs' : _) (a a' : _) (r r' : _) (s s' : _) → ru
     → placesIn (now (a' .1 .1 .1 .0)) (now (a' .1 .1 .1 .1 .0)) ≡ placesIn (now (a .1 .1 .1 .0)) (now (a .1 .1 .1 .1 .0))
     → FirstAccepts X runs r (now (s .1 .1 .1 .0))
     → SecondToo X runs runs' r r' (now (s' .1 .1 .1 .0)) (now (s .1 .1 .1 .1 .0)) (now (s' .1 .1 .1 .1 .0))
-list-gift X κs κs' a a' r r' s s' first second beside bytes places accepts = ?
+list-gift X κs κs' a a' r r' s s' first second beside bytes places accepts =
+    let held = list-held κs a r s first (accepts .verdict) in
+    let so = held-accepts held accepts in
+    let accepted : listVerdict (a .0) (a .1 .0) ≡ Accepted = sym (ap (λ (run : Run). run .verdict) (first .0)) ∙ accepts .verdict in
+    let too : r' .verdict ≡ Accepted = ap (λ (run : Run). run .verdict) (second .0) ∙ list-accepted X _ (a .0) (a' .0) (a .1 .0) (a' .1 .0) (now (a .1 .1 .0)) (now (a' .1 .1 .0)) beside accepted (so .1) in
+    held-too held (list-held κs' a' r' s' second too) places too
+    (list-steps X _ (a .0) (a' .0) (a .1 .0) (a' .1 .0) (now (a .1 .1 .0)) (now (a' .1 .1 .0)) beside accepted (so .1) bytes (so .0))
 
 pub book-gift : (X : ℕ) (κs κs' : _) (a a' : _) (r r' : _) (s s' : _) → run-book.Post κs a r s → run-book.Post κs' a' r' s'
     → let runs : ℕ → Ran = λ k. bookRun k (now (a .0)) in
@@ -120,10 +141,7 @@ pub book-gift : (X : ℕ) (κs κs' : _) (a a' : _) (r r' : _) (s s' : _) → ru
 book-gift X κs κs' a a' r r' s s' first second alike places accepts =
     let bytes = now (a .0) in
     let bytes' = now (a' .0) in
-    let n = placesIn (now (a .1 .0)) (now (a .1 .1 .0)) in
-    let n' = placesIn (now (a' .1 .0)) (now (a' .1 .1 .0)) in
-    let held : Held (λ k. bookRun k bytes) n r (now (s .1 .0)) (now (s .1 .1 .0)) = told-held _ n Accepted r (now (a .1 .0)) _ _ (first .0) (first .1 .0) (few-answers n bytes 0 newBook) (λ k few. book-after-each κs a r s first k few .available) in
-    let held' : Held (λ k. bookRun k bytes') n' r' (now (s' .1 .0)) (now (s' .1 .1 .0)) = told-held _ n' Accepted r' (now (a' .1 .0)) _ _ (second .0) (second .1 .0) (few-answers n' bytes' 0 newBook) (λ k few. book-after-each κs' a' r' s' second k few .available) in
+    let held = book-held κs a r s first in
     let so = held-accepts held accepts in
-    held-too X n _ _ r r' _ _ _ _ held (subst (λ (n : ℕ). Held (λ k. bookRun k bytes') n r' (now (s' .1 .0)) (now (s' .1 .1 .0))) places held') (ap (λ (run : Run). run .verdict) (second .0))
-    (λ k few. together X bytes bytes' (alike .size) _ (alike-reads X bytes bytes') k n few 0 newBook newBook (alike .records) (new-abreast X) (so .0) (so .1))
+    held-too held (book-held κs' a' r' s' second) places (ap (λ (run : Run). run .verdict) (second .0))
+    (λ k few. together X bytes bytes' (alike .size) _ (alike-reads X bytes bytes') k _ few 0 newBook newBook (alike .records) (new-abreast X) (so .0) (so .1))

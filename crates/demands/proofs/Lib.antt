@@ -8,6 +8,7 @@ pub mod EveryInput
 pub mod GiftOfLists
 pub mod GiftOfRuns
 pub mod LentBuffer
+pub mod ListsBeside
 pub mod OneOutcome
 pub mod OrderToo
 pub mod OrdersTold
