@@ -29,6 +29,7 @@ use Rattle.account.specs.declared.judged.Verdict.the-variants.{Accepted, Refuse
 use Rattle.account.proofs.Passed.{went-on}
 use Rattle.set_up.specs.Stages.{bookAfter, contractVerdict, entered, enteredAs, inPlace, recordVerdict, underlyingVerdict, withEntry}
 use Rattle.set_up.specs.declared.stages.Book.{Book}
+use Rattle.set_up.specs.declared.stages.Entered.{Entered}
 use Rattle.set_up.specs.declared.stages.Stage.{Stage}
 use Rattle.set_up.specs.declared.stages.Stage.the-variants.{Underlyings, Contracts, Entries}
 use Rattle.set_up.proofs.Entering.{open-stage, verdict}
@@ -85,6 +86,20 @@ unopened : (X : ℕ) (stage : Stage) (kind : ℕ) (a : Account) → 16 ≤ kind 
 unopened X Underlyings kind a many placed = refl
 unopened X Contracts kind a many placed = refl
 unopened X Entries kind a many placed = absurd (omega (arith, inside kind (1 to 8) placed))
+
+-- an accepted record goes on to the book after it
+module _ (b : Book) (entry : Entry) (f : Figures) where
+  pub was-accepted : entered b entry f .verdict ≡ Accepted → recordVerdict b entry f ≡ Accepted
+  unfolding entered
+  was-accepted = go (recordVerdict b entry f)
+    where
+      go : (v : Verdict) → enteredAs v b (bookAfter b entry f) .verdict ≡ Accepted → v ≡ Accepted
+      go Accepted e = e
+      go (Refused why) e = e
+
+  pub when-accepted : recordVerdict b entry f ≡ Accepted → entered b entry f ≡ record { verdict = Accepted; book = bookAfter b entry f }
+  unfolding entered
+  when-accepted e = ap (λ (v : Verdict). enteredAs v b (bookAfter b entry f)) e
 
 -- the ceiling with X added, of a book that is open
 abbrev pub Room : ℕ → Book → Type 0
@@ -189,15 +204,11 @@ module _ (X : ℕ) (b b' : Book) (f : Figures) (so : Abreast X b b') where
 
   pub entered-onward : (entry entry' : Entry) → Alike X entry entry' → entered b entry f .verdict ≡ Accepted → Room X (entered b entry f .book)
       → (entered b' entry' f .verdict ≡ Accepted) × Abreast X (entered b entry f .book) (entered b' entry' f .book)
-  unfolding entered recordVerdict
-  entered-onward entry entry' alike = go (recordVerdict b entry f) refl
-    where
-      go : (v : Verdict) → recordVerdict b entry f ≡ v → enteredAs v b (bookAfter b entry f) .verdict ≡ Accepted → Room X (enteredAs v b (bookAfter b entry f) .book)
-          → (entered b' entry' f .verdict ≡ Accepted) × Abreast X (enteredAs v b (bookAfter b entry f) .book) (entered b' entry' f .book)
-      go Accepted e accepted room =
-          let passed = went-on (inPlace (b .stage) (codeOf (kindOf entry))) OutOfPlace _ e in
-          let on = alike-onward alike (passed .0) (passed .1) room in
-          let placed : inPlace (b' .stage) (codeOf (kindOf entry')) ≡ true = rw (so .stage, same-kind alike) (passed .0) in
-          let too : recordVerdict b' entry' f ≡ Accepted = both-pass _ OutOfPlace _ placed (on .0) in
-          subst (λ (v : Verdict). let after = enteredAs v b' (bookAfter b' entry' f) in (after .verdict ≡ Accepted) × Abreast X (bookAfter b entry f) (after .book)) (sym too) (refl, on .1)
-      go (Refused why) e accepted room = let never : _≡_ {A = ℕ} 0 1 = cc in absurd (omega arith)
+  unfolding recordVerdict
+  entered-onward entry entry' alike accepted room =
+      let first = was-accepted b entry f accepted in
+      let passed = went-on (inPlace (b .stage) (codeOf (kindOf entry))) OutOfPlace _ first in
+      let on = alike-onward alike (passed .0) (passed .1) (subst (λ (after : Entered). Room X (after .book)) (when-accepted b entry f first) room) in
+      let placed : inPlace (b' .stage) (codeOf (kindOf entry')) ≡ true = rw (so .stage, same-kind alike) (passed .0) in
+      let second : recordVerdict b' entry' f ≡ Accepted = both-pass _ OutOfPlace _ placed (on .0) in
+      rw (when-accepted b entry f first, when-accepted b' entry' f second) (refl, on .1)

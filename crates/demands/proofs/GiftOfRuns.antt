@@ -2,12 +2,11 @@
 use denote.Ref.{now}
 use mathlib.Core.List.{List, map}
 use mathlib.Core.Path.{_≡_, refl, sym, ap, subst, _∙_}
-use Prim.Native.Nat.{ℕ, suc, _+_, _≤_, _<_}
+use Prim.Native.Nat.{ℕ, suc, _≤_, _<_}
 use native.Mathlib.Omega.{arith}
 use lib.IntN.{ℤ, pos, _+ℤ_}
 use lib.ListN.{getD, length, length-map, take}
 use lib.Seq.{take-at}
-use Rattle.entries.specs.declared.entry.Entry.{Entry}
 use Rattle.reading.specs.Reading.{readAt}
 use Rattle.account.specs.declared.judged.Verdict.{Verdict}
 use Rattle.account.specs.declared.judged.Verdict.the-variants.{Accepted}
@@ -16,7 +15,7 @@ use Rattle.set_up.specs.Stages.{newBook}
 use Rattle.set_up.specs.declared.stages.Book.{Book}
 use Rattle.set_up.specs.declared.stages.Stage.{Stage}
 use Rattle.set_up.specs.declared.stages.Stage.the-variants.{Entries}
-use Rattle.desk.specs.Runs.{Ran, availableAt, availableIn, bookRun, listBy, listRun, numbersLeft, placesIn, runFrom, told}
+use Rattle.desk.specs.Runs.{Ran, availableAt, availableIn, bookRun, listRun, numbersLeft, placesIn, runFrom, told}
 use Rattle.desk.specs.declared.Run.{Run}
 use Rattle.desk.proofs.Places.{few-answers}
 use Rattle.desk.proofs.run_book.Reads as run-book
@@ -26,7 +25,7 @@ use Rattle.demands.specs.GiftRuns.{BookBeside, BooksAlike, FirstAccepts,
 use Rattle.demands.proofs.BooksBeside.{Abreast, Room, abreast-beside, same-row}
 use Rattle.demands.proofs.EveryEntry.{book-after-each, list-after-each}
 use Rattle.demands.proofs.ListsBeside.{list-accepted, list-few, list-steps}
-use Rattle.demands.proofs.RunsBeside.{AllAccepted, InStep, ReadsOn, both-so, together}
+use Rattle.demands.proofs.RunsBeside.{AllAccepted, InStep, ReadsOn, together}
 use Rattle.demands.proofs.RunsTold.{read-goes-on}
 
 -- what the caller of a run holds afterwards, by the runs with fewer places
@@ -44,9 +43,6 @@ more-available {X} {b} {b'} so stands =
     ∙ so .account stands .available
     ∙ sym (ap (λ (stage : Stage). availableAt stage (b .account .sheet) +ℤ pos X) stands)
 
-books-so : {X : ℕ} {b b' c c' : Book} → b ≡ c → b' ≡ c' → BookBeside X c c' → BookBeside X b b'
-books-so e e' so = rw (e, e') so
-
 held-too : {X n n' : ℕ} {runs runs' : ℕ → Ran} {r r' : Run} {numbers numbers' : List ℕ} {sums sums' : List ℤ} → Held runs n r numbers sums → Held runs' n' r' numbers' sums' → n' ≡ n → r' .verdict ≡ Accepted
     → ((k : ℕ) → k ≤ n → InStep X (runs k) (runs' k)) → SecondToo X runs runs' r r' numbers' sums sums'
 held-too {X} {n} {n'} {runs} {runs'} {r} {r'} {numbers} {numbers'} {sums} {sums'} first other places accepted steps =
@@ -62,7 +58,7 @@ held-too {X} {n} {n'} {runs} {runs'} {r} {r'} {numbers} {numbers'} {sums} {sums'
       after = beside;
       available =
           λ k few stands. second .available k (omega (arith, same)) ∙ more-available (beside (suc k) few) stands ∙ ap (λ (sum : ℤ). sum +ℤ pos X) (sym (first .available k few));
-      returned = books-so (first .book) (second .book) (abreast-beside (whole .abreast));
+      returned = rw (first .book, second .book) (abreast-beside (whole .abreast));
     }
 
 held-accepts : {X n : ℕ} {runs : ℕ → Ran} {r : Run} {numbers : List ℕ} {sums : List ℤ} → Held runs n r numbers sums → FirstAccepts X runs r numbers
@@ -89,10 +85,13 @@ book-held : (κs : _) (a : _) (r : _) (s : _) → run-book.Post κs a r s
 book-held κs a r s p =
     told-held _ _ Accepted r (now (a .1 .0)) _ _ (p .0) (p .1 .0) (few-answers _ (now (a .0)) 0 newBook) (λ k few. book-after-each κs a r s p k few .available)
 
+list-judged : (κs : _) (a : _) (r : _) (s : _) → run-list.Post κs a r s → r .verdict ≡ listVerdict (a .0) (a .1 .0)
+list-judged κs a r s p = ap (λ (run : Run). run .verdict) (p .0)
+
 list-held : (κs : _) (a : _) (r : _) (s : _) → run-list.Post κs a r s → r .verdict ≡ Accepted
     → Held (λ k. listRun (a .0) (a .1 .0) k (now (a .1 .1 .0))) (placesIn (now (a .1 .1 .1 .0)) (now (a .1 .1 .1 .1 .0))) r (now (s .1 .1 .1 .0)) (now (s .1 .1 .1 .1 .0))
 list-held κs a r s p accepted =
-    told-held _ _ (listVerdict (a .0) (a .1 .0)) r (now (a .1 .1 .1 .0)) _ _ (p .0) (p .1 .0) (list-few (a .0) (a .1 .0) (now (a .1 .1 .0)) (sym (ap (λ (run : Run). run .verdict) (p .0)) ∙ accepted) _)
+    told-held _ _ (listVerdict (a .0) (a .1 .0)) r (now (a .1 .1 .1 .0)) _ _ (p .0) (p .1 .0) (list-few (a .0) (a .1 .0) (now (a .1 .1 .0)) (sym (list-judged κs a r s p) ∙ accepted) _)
     (λ k few. list-after-each κs a r s p accepted k few .available)
 
 new-abreast : (X : ℕ) → Abreast X newBook newBook
@@ -126,8 +125,8 @@ pub list-gift : (X : ℕ) (κs κs' : _) (a a' : _) (r r' : _) (s s' : _) → ru
 list-gift X κs κs' a a' r r' s s' first second beside bytes places accepts =
     let held = list-held κs a r s first (accepts .verdict) in
     let so = held-accepts held accepts in
-    let accepted : listVerdict (a .0) (a .1 .0) ≡ Accepted = sym (ap (λ (run : Run). run .verdict) (first .0)) ∙ accepts .verdict in
-    let too : r' .verdict ≡ Accepted = ap (λ (run : Run). run .verdict) (second .0) ∙ list-accepted X _ (a .0) (a' .0) (a .1 .0) (a' .1 .0) (now (a .1 .1 .0)) (now (a' .1 .1 .0)) beside accepted (so .1) in
+    let accepted : listVerdict (a .0) (a .1 .0) ≡ Accepted = sym (list-judged κs a r s first) ∙ accepts .verdict in
+    let too : r' .verdict ≡ Accepted = list-judged κs' a' r' s' second ∙ list-accepted X _ (a .0) (a' .0) (a .1 .0) (a' .1 .0) (now (a .1 .1 .0)) (now (a' .1 .1 .0)) beside accepted (so .1) in
     held-too held (list-held κs' a' r' s' second too) places too
     (list-steps X _ (a .0) (a' .0) (a .1 .0) (a' .1 .0) (now (a .1 .1 .0)) (now (a' .1 .1 .0)) beside accepted (so .1) bytes (so .0))
 

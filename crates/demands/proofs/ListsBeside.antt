@@ -6,8 +6,7 @@ use Prim.Native.Nat.{ℕ, zero, suc, _+_, _≤_, _<_}
 use native.Mathlib.Omega.{arith}
 use lib.Dec.{leb, ltb}
 use lib.ListN.{length}
-use Rattle.terms.specs.Ranges.{rangeOf, _to_, _∈_}
-use Rattle.terms.specs.declared.measure.Measure.the-variants.{OpeningCash}
+use Rattle.terms.specs.Ranges.{_to_}
 use Rattle.terms.specs.declared.refusal.Refusal.the-variants.{OutOfPlace, OutOfRange}
 use Rattle.terms.proofs.Ranges.{first-holds, inside}
 use Rattle.entries.specs.Entries.{kindOf}
@@ -21,21 +20,22 @@ use Rattle.reading.specs.declared.Answer.the-variants as Answer·of
 use Rattle.account.specs.DayEnd.{every}
 use Rattle.account.specs.Opening.{opening}
 use Rattle.account.specs.Rows.{underlying}
-use Rattle.account.specs.Sound.{contractAllowed, underlyingAllowed}
+use Rattle.account.specs.Sound.{underlyingAllowed}
 use Rattle.account.specs.declared.judged.Verdict.{Verdict}
-use Rattle.account.specs.declared.judged.Verdict.the-variants.{Accepted, Refused}
+use Rattle.account.specs.declared.judged.Verdict.the-variants.{Accepted}
 use Rattle.account.specs.declared.tables.Tables.{Tables}
 use Rattle.account.proofs.Bounds.{four}
 use Rattle.account.proofs.Passed.{went-on}
 use Rattle.rows.specs.Given.{listVerdict, tablesAllowed}
-use Rattle.set_up.specs.Stages.{bookAfter, entered, enteredAs, inPlace, opened, recordVerdict}
+use Rattle.set_up.specs.Stages.{bookAfter, entered, inPlace, opened, recordVerdict}
 use Rattle.set_up.specs.declared.stages.Book.{Book}
+use Rattle.set_up.specs.declared.stages.Entered.{Entered}
 use Rattle.set_up.specs.declared.stages.Stage.{Stage}
 use Rattle.set_up.specs.declared.stages.Stage.the-variants.{Entries}
 use Rattle.desk.specs.Runs.{Ran, listBy, listRun, runFrom}
 use Rattle.desk.proofs.Places.{few-answers}
 use Rattle.demands.specs.GiftRuns.{GivenBeside, same}
-use Rattle.demands.proofs.BooksBeside.{Abreast, Room, both-pass, opening-within}
+use Rattle.demands.proofs.BooksBeside.{Abreast, Room, both-pass, opening-within, was-accepted, when-accepted}
 use Rattle.demands.proofs.OrderToo.{relisted, roomier-relisted}
 use Rattle.demands.proofs.RunsBeside.{AllAccepted, InStep, ReadsOn, both-so, together}
 
@@ -57,13 +57,13 @@ relisted-too t rows cash cash' allowed room accepted =
     let tables : tablesAllowed (relisted t rows) ≡ true = both-hold _ _ (both-hold _ _ (both-hold _ _ (known .0) (known .1)) (all-pass (t .m) _ allowed)) (known .3) in
     both-pass _ OutOfPlace _ (some .0) (both-pass _ OutOfRange Accepted (both-hold _ _ tables (opening-within cash' room)) refl)
 
-pub given-too : (X : ℕ) (t t' : Tables) (cash cash' : ℕ) → GivenBeside X t t' cash cash' → cash + X ≤ 1_000_000_000_000_000 → listVerdict t cash ≡ Accepted → listVerdict t' cash' ≡ Accepted
+given-too : (X : ℕ) (t t' : Tables) (cash cash' : ℕ) → GivenBeside X t t' cash cash' → cash + X ≤ 1_000_000_000_000_000 → listVerdict t cash ≡ Accepted → listVerdict t' cash' ≡ Accepted
 given-too X t t' cash cash' beside room accepted =
     let same = roomier-relisted (beside .tables) in
     let allowed : (u : ℕ) → u < t .m → underlyingAllowed (underlying (relisted t (t' .underlyings)) u) ≡ true = λ u h. beside .allowed u (omega (arith, h, beside .tables .m)) in
     subst (λ (tables : Tables). listVerdict tables cash' ≡ Accepted) same (relisted-too t (t' .underlyings) cash cash' allowed (omega (arith, room, beside .richer)) accepted)
 
-pub opened-abreast : (X : ℕ) (t t' : Tables) (cash cash' : ℕ) → GivenBeside X t t' cash cash' → Abreast X (opened t cash) (opened t' cash')
+opened-abreast : (X : ℕ) (t t' : Tables) (cash cash' : ℕ) → GivenBeside X t t' cash cash' → Abreast X (opened t cash) (opened t' cash')
 opened-abreast X t t' cash cash' beside =
     record {
       stage = refl;
@@ -88,17 +88,15 @@ entry-opens b f (Contract row) few = absurd (omega arith)
 entry-opens b f (Opening cash) few = absurd (omega arith)
 
 still-open : (b : Book) (f : Figures) (entry : Entry) → b .stage ≡ Entries → entered b entry f .verdict ≡ Accepted → (codeOf (kindOf entry) ≤ 8) × (entered b entry f .book .stage ≡ Entries)
-unfolding entered recordVerdict
-still-open b f entry stands = go (recordVerdict b entry f) refl
-  where
-    go : (v : Verdict) → recordVerdict b entry f ≡ v → let after = enteredAs v b (bookAfter b entry f) in after .verdict ≡ Accepted → (codeOf (kindOf entry) ≤ 8) × (after .book .stage ≡ Entries)
-    go Accepted e accepted =
-        let placed = went-on (inPlace (b .stage) (codeOf (kindOf entry))) OutOfPlace _ e .0 in
-        let few = inside (codeOf (kindOf entry)) (1 to 8) (subst (λ (stage : Stage). inPlace stage (codeOf (kindOf entry)) ≡ true) stands placed) .1 in
-        (few, entry-opens b f entry few)
-    go (Refused why) e accepted = let never : _≡_ {A = ℕ} 0 1 = cc in absurd (omega arith)
+unfolding recordVerdict
+still-open b f entry stands accepted =
+    let kind = codeOf (kindOf entry) in
+    let passed = was-accepted b entry f accepted in
+    let placed = went-on (inPlace (b .stage) kind) OutOfPlace _ passed .0 in
+    let few = inside kind (1 to 8) (subst (λ (stage : Stage). inPlace stage kind ≡ true) stands placed) .1 in
+    (few, ap (λ (after : Entered). after .book .stage) (when-accepted b entry f passed) ∙ entry-opens b f entry few)
 
-pub same-reads : (X : ℕ) (s s' : List ℕ) → s' ≡ s → ReadsOn X s s' (λ place b. b .stage ≡ Entries)
+same-reads : (X : ℕ) (s s' : List ℕ) → s' ≡ s → ReadsOn X s s' (λ place b. b .stage ≡ Entries)
 same-reads X s s' bytes place b entry len stands there e accepted =
     let on = still-open b (readAt s place .figures) entry stands accepted in
     let found : readAt s place ≡ record { answer = Answer·of.Found entry len; figures = readAt s place .figures } = λ i. record { answer = e i; figures = readAt s place .figures } in

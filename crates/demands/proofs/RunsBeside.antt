@@ -1,4 +1,4 @@
--- Two runs that read alike go side by side: turn by turn the second accepts what the first accepts, so both books stay abreast and both runs end together, with as many places for answers as one likes to stop at.
+-- Two runs that read alike go side by side: turn by turn the second accepts what the first accepts, so both books stay abreast after each answer and both runs end together.
 use mathlib.Core.Path.{_≡_, refl, sym, ap, subst, _∙_}
 use mathlib.Core.List.{List, _∷_, map}
 use Prim.Native.Nat.{ℕ, zero, suc, _+_, _-_, _≤_, _<_}
@@ -45,13 +45,15 @@ pub record InStep (X : ℕ) (first second : Ran) : Type 0 where
   pub all : AllAccepted second
   pub abreast : Abreast X (first .book) (second .book)
 
+-- the same of runs that equal these
 pub both-so : {X : ℕ} {first second first' second' : Ran} → first ≡ first' → second ≡ second' → InStep X first' second' → InStep X first second
 both-so e e' so = rw (e, e') so
 
+-- where there is nothing to answer
 at-once : {X : ℕ} {place : ℕ} {b b' : Book} → Abreast X b b' → InStep X (ended place b) (ended place b')
 at-once abreast = record { answered = refl; place = refl; all = tt; abreast = abreast }
 
--- a reading of the first at a place, by the book there: what is accepted the second reads alike, and so on from the place behind it
+-- where the first run stands at a place with a book, the second reads what the first accepts alike, and so from the place behind it on; how it stands differs between a list and a book
 abbrev pub ReadsOn : ℕ → List ℕ → List ℕ → (ℕ → Book → Type 0) → Type 0
 ReadsOn X s s' Stands =
     (place : ℕ) (b : Book) (entry : Entry) (len : ℕ) → let f = readAt s place .figures in
