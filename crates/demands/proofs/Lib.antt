@@ -1,5 +1,6 @@
 -- What this product promises, as theorems over the crates' definitions and over the contracts generated from their functions.
 pub mod AfterEach
+pub mod BooksBeside
 pub mod BooksTold
 pub mod ChecksToo
 pub mod DayEndLengths
@@ -13,6 +14,7 @@ pub mod GiftOfRuns
 pub mod LentBuffer
 pub mod LentSlices
 pub mod ListOfRecords
+pub mod ListsBeside
 pub mod LocksToo
 pub mod OneAnswer
 pub mod OneOutcome
@@ -24,6 +26,7 @@ pub mod ReadBytes
 pub mod ReadWritten
 pub mod RecordsTold
 pub mod Relisted
+pub mod RunsBeside
 pub mod RunsTold
 pub mod ShutOut
 pub mod Stepped
