@@ -9,52 +9,53 @@ use lib.Dec.{ltb}
 use lib.IntN.{ℤ, pos}
 use lib.ListN.{getD, length}
 use Rattle.reading.specs.Reading.{readAt}
-use Rattle.set_up.specs.Sound.{SoundBook}
+use Rattle.reading.specs.declared.Reading.{Reading}
 use Rattle.set_up.specs.declared.stages.Book.{Book}
 use Rattle.desk.specs.Runs.{Ran, _before_, answerTo, ended, runFrom}
 use Rattle.desk.specs.declared.answer.Answered as Answer
-use Rattle.desk.proofs.Answered.{answer-sound}
 use Rattle.desk.proofs.Turns.{no-byte, rest, turn}
-use Rattle.demands.specs.EveryEntry.{Answered}
-use Rattle.demands.proofs.OneAnswer.{answer-told}
 
 -- the k-th answer of a run, and what it stands for between two runs
 abbrev said : Ran → ℕ → ℕ × ℤ
 said run k = getD (run .answers) k (0, pos 0)
 
-abbrev pub Between : List ℕ → Ran → Ran → ℕ × ℤ → Type 0
-Between s run next answer = Answered (run .book) (next .book) (readAt s (run .place)) (answer .0) (answer .1)
-
 -- a turn, by whether a byte is left and whether the answer ends the run
 abbrev turned : ℕ → Book → Answer.Answered → Bool → Bool → Ran → Ran
 turned place b answer there ends more = cond there (answer before cond ends (ended place (answer .book)) more) (ended place b)
 
--- an answer behind the first is one of the rest, where there is a rest
-behind-first : (s : List ℕ) (place : ℕ) (b : Book) (answer : Answer.Answered) (there ends : Bool) (k : ℕ) (run next whole : Ran)
-    → let ran : Ran → Ran = turned place b answer there ends in
-    (k < length (whole .answers) → Between s run next (said whole k)) → suc k < length (ran whole .answers) → Between s (ran run) (ran next) (said (ran whole) (suc k))
-behind-first s place b answer false ends k run next whole so few = absurd (omega arith)
-behind-first s place b answer true true k run next whole so few = absurd (omega arith)
-behind-first s place b answer true false k run next whole so few = so (omega (arith, few))
+-- what a record's answer stands for between two runs
+abbrev pub Between : (Book → Book → Reading → ℕ → ℤ → Type 0) → List ℕ → Ran → Ran → ℕ × ℤ → Type 0
+Between Told s run next answer = Told (run .book) (next .book) (readAt s (run .place)) (answer .0) (answer .1)
 
-pub after-each : (k n : ℕ) (s : List ℕ) (place : ℕ) (b : Book) → SoundBook b → k < length (runFrom n s place b .answers)
-    → Between s (runFrom k s place b) (runFrom (suc k) s place b) (said (runFrom n s place b) k)
-unfolding runFrom
-after-each k zero s place b sound few = absurd (omega arith)
-after-each zero (suc n) s place b sound few =
-    let answer = answerTo b (readAt s place) in
-    go (ltb place (length s)) (answer .ends) (runFrom n s (place + answer .length) (answer .book)) few
-  where
-    go : (there ends : Bool) (more : Ran)
-        → let answer = answerTo b (readAt s place) in
-        let ran : Ran → Ran = turned place b answer there ends in
-        0 < length (ran more .answers) → Between s (ended place b) (ran (ended (place + answer .length) (answer .book))) (said (ran more) 0)
-    go false ends more few = absurd (omega arith)
-    go true true more few = answer-told b (readAt s place) sound
-    go true false more few = answer-told b (readAt s place) sound
-after-each (suc k) (suc n) s place b sound few =
-    let answer = answerTo b (readAt s place) in
-    behind-first s place b answer (ltb place (length s)) (answer .ends) k _ _ _ (after-each k n s (place + answer .length) (answer .book) (answer-sound b (readAt s place) sound)) few
+-- what holds of the answer to any record, from a start that each answer leads to again, holds of each answer of a run
+module _ (Start : Book → Type 0) (Told : Book → Book → Reading → ℕ → ℤ → Type 0) (next : (b : Book) (reading : Reading) → Start b → Start (answerTo b reading .book))
+    (one : (b : Book) (reading : Reading) → Start b → let answer = answerTo b reading in Told b (answer .book) reading (answer .number) (answer .available)) where
+  -- an answer behind the first is one of the rest, where there is a rest
+  behind-first : (s : List ℕ) (place : ℕ) (b : Book) (answer : Answer.Answered) (there ends : Bool) (k : ℕ) (run run' whole : Ran)
+      → let ran : Ran → Ran = turned place b answer there ends in
+      (k < length (whole .answers) → Between Told s run run' (said whole k)) → suc k < length (ran whole .answers) → Between Told s (ran run) (ran run') (said (ran whole) (suc k))
+  behind-first s place b answer false ends k run run' whole so few = absurd (omega arith)
+  behind-first s place b answer true true k run run' whole so few = absurd (omega arith)
+  behind-first s place b answer true false k run run' whole so few = so (omega (arith, few))
+
+  pub after-each : (k n : ℕ) (s : List ℕ) (place : ℕ) (b : Book) → Start b → k < length (runFrom n s place b .answers)
+      → Between Told s (runFrom k s place b) (runFrom (suc k) s place b) (said (runFrom n s place b) k)
+  unfolding runFrom
+  after-each k zero s place b start few = absurd (omega arith)
+  after-each zero (suc n) s place b start few =
+      let answer = answerTo b (readAt s place) in
+      go (ltb place (length s)) (answer .ends) (runFrom n s (place + answer .length) (answer .book)) few
+    where
+      go : (there ends : Bool) (more : Ran)
+          → let answer = answerTo b (readAt s place) in
+          let ran : Ran → Ran = turned place b answer there ends in
+          0 < length (ran more .answers) → Between Told s (ended place b) (ran (ended (place + answer .length) (answer .book))) (said (ran more) 0)
+      go false ends more few = absurd (omega arith)
+      go true true more few = one b (readAt s place) start
+      go true false more few = one b (readAt s place) start
+  after-each (suc k) (suc n) s place b start few =
+      let answer = answerTo b (readAt s place) in
+      behind-first s place b answer (ltb place (length s)) (answer .ends) k _ _ _ (after-each k n s (place + answer .length) (answer .book) (next b (readAt s place) start)) few
 
 -- a run with more places than it has answers is the one with as many
 pub as-answered : (n : ℕ) (s : List ℕ) (place : ℕ) (b : Book) → runFrom n s place b ≡ runFrom (length (runFrom n s place b .answers)) s place b

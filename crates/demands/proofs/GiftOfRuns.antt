@@ -23,7 +23,7 @@ use Rattle.desk.proofs.run_list.Reads as run-list
 use Rattle.demands.specs.Each.{Each}
 use Rattle.demands.specs.GiftRuns.{BookBeside, BooksAlike, FirstAccepts, GivenBeside, ReadAlike, SecondToo}
 use Rattle.demands.proofs.BooksBeside.{Abreast, Room, abreast-beside, same-row}
-use Rattle.demands.proofs.EveryEntry.{book-after-each, list-after-each}
+use Rattle.demands.proofs.EveryEntry.{book-sums, list-sums}
 use Rattle.demands.proofs.ListsBeside.{list-accepted, list-few, list-steps}
 use Rattle.demands.proofs.RunsBeside.{AllAccepted, InStep, ReadsOn, together}
 use Rattle.demands.proofs.RunsTold.{read-goes-on}
@@ -83,7 +83,7 @@ told-held runs n v r lent numbers sums is written few available =
 book-held : (κs : _) (a : _) (r : _) (s : _) → run-book.Post κs a r s
     → Held (λ k. bookRun k (now (a .0))) (placesIn (now (a .1 .0)) (now (a .1 .1 .0))) r (now (s .1 .0)) (now (s .1 .1 .0))
 book-held κs a r s p =
-    told-held _ _ Accepted r (now (a .1 .0)) _ _ (p .0) (p .1 .0) (few-answers _ (now (a .0)) 0 newBook) (λ k few. book-after-each κs a r s p k few .available)
+    told-held _ _ Accepted r (now (a .1 .0)) _ _ (p .0) (p .1 .0) (few-answers _ (now (a .0)) 0 newBook) (book-sums κs a r s p)
 
 list-judged : (κs : _) (a : _) (r : _) (s : _) → run-list.Post κs a r s → r .verdict ≡ listVerdict (a .0) (a .1 .0)
 list-judged κs a r s p = ap (λ (run : Run). run .verdict) (p .0)
@@ -92,7 +92,7 @@ list-held : (κs : _) (a : _) (r : _) (s : _) → run-list.Post κs a r s → r 
     → Held (λ k. listRun (a .0) (a .1 .0) k (now (a .1 .1 .0))) (placesIn (now (a .1 .1 .1 .0)) (now (a .1 .1 .1 .1 .0))) r (now (s .1 .1 .1 .0)) (now (s .1 .1 .1 .1 .0))
 list-held κs a r s p accepted =
     told-held _ _ (listVerdict (a .0) (a .1 .0)) r (now (a .1 .1 .1 .0)) _ _ (p .0) (p .1 .0) (list-few (a .0) (a .1 .0) (now (a .1 .1 .0)) (sym (list-judged κs a r s p) ∙ accepted) _)
-    (λ k few. list-after-each κs a r s p accepted k few .available)
+    (list-sums κs a r s p accepted)
 
 new-abreast : (X : ℕ) → Abreast X newBook newBook
 new-abreast X =

@@ -36,7 +36,7 @@ use Rattle.desk.specs.Runs.{Ran, listBy, listRun, runFrom}
 use Rattle.desk.proofs.Places.{few-answers}
 use Rattle.demands.specs.GiftRuns.{GivenBeside, same}
 use Rattle.demands.proofs.BooksBeside.{Abreast, Room, both-pass, opening-within, was-accepted, when-accepted}
-use Rattle.demands.proofs.OrderToo.{relisted, roomier-relisted}
+use Rattle.demands.proofs.Relisted.{relisted, roomier-relisted}
 use Rattle.demands.proofs.RunsBeside.{AllAccepted, InStep, ReadsOn, both-so, together}
 
 all-pass : (n : ℕ) (test : ℕ → Bool) → ((i : ℕ) → i < n → test i ≡ true) → every n test ≡ true

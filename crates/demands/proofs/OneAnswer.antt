@@ -23,9 +23,9 @@ use Rattle.account.specs.declared.tables.Tables.{Tables}
 use Rattle.set_up.specs.Sound.{SoundBook}
 use Rattle.set_up.specs.Stages.{bookAfter, entered, enteredAs, recordVerdict}
 use Rattle.set_up.specs.declared.stages.Book.{Book}
-use Rattle.desk.specs.Runs.{answerBy, answerTo}
+use Rattle.desk.specs.Runs.{answerBy, answerTo, availableIn}
 use Rattle.desk.proofs.Answered.{answer-sound}
-use Rattle.demands.specs.EveryEntry.{Answered, AsRuled}
+use Rattle.demands.specs.EveryEntry.{AfterEntry, AsRuled}
 use Rattle.demands.proofs.PaperNumbers.{refusal-number}
 
 as-ruled : (t : Tables) (a : Account) → Sound t a → AsRuled t a
@@ -53,14 +53,22 @@ module _ (b : Book) (f : Figures) where
       go Verdict·of.Accepted never = absurd (never refl)
       go (Verdict·of.Refused why) never = refl
 
-pub answer-told : (b : Book) (reading : Reading) → SoundBook b → let answer = answerTo b reading in Answered b (answer .book) reading (answer .number) (answer .available)
+pub answer-available : (b : Book) (reading : Reading) → let answer = answerTo b reading in answer .available ≡ availableIn (answer .book)
+unfolding answerTo
+answer-available b reading = go (reading .answer)
+  where
+    go : (v : Answer) → let answer = answerBy b (reading .figures) v in answer .available ≡ availableIn (answer .book)
+    go (Found entry len) = refl
+    go (Refused why place) = refl
+
+pub answer-told : (b : Book) (reading : Reading) → SoundBook b → let answer = answerTo b reading in AfterEntry b (answer .book) reading (answer .number) (answer .available)
 unfolding answerTo
 answer-told b reading sound = go (reading .answer) refl (answer-sound b reading sound)
   where
     f : Figures
     f = reading .figures
 
-    go : (v : Answer) → reading .answer ≡ v → SoundBook (answerBy b f v .book) → let answer = answerBy b f v in Answered b (answer .book) reading (answer .number) (answer .available)
+    go : (v : Answer) → reading .answer ≡ v → SoundBook (answerBy b f v .book) → let answer = answerBy b f v in AfterEntry b (answer .book) reading (answer .number) (answer .available)
     go (Found entry len) e next =
         record {
           sound = next;

@@ -30,7 +30,7 @@ pub record AsRuled (t : Tables) (a : Account) : Type 0 where
   pub daily : (u : ℕ) → u < t .m → holding a u .bought .0 ≤ underlying t u .daily  -- today's buy opens
 
 -- "after every entry": the book before and after a record, how the record was read, and what was written as its answer
-pub record Answered (before after : Book) (reading : Reading) (number : ℕ) (sum : ℤ) : Type 0 where
+pub record AfterEntry (before after : Book) (reading : Reading) (number : ℕ) (sum : ℤ) : Type 0 where
   pub sound : SoundBook after  -- all that the rules ask of tables and account
   pub ruled : after .stage ≡ Entries → AsRuled (after .tables) (after .account)
   pub available : sum ≡ availableIn after  -- cash less holds less margin, and 0 before the opening
