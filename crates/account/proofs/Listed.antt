@@ -11,7 +11,7 @@ use borrow.Author.Tests.{lt-ltb}
 use lib.Dec.{ltb}
 use lib.ListN.{length, getD, length-append, length-map, List·getD-append}
 use lib.Seq.{getD-at}
-use Rattle.terms.proofs.Ranges.{first-holds, second-holds}
+use Rattle.terms.proofs.Ranges.{both-hold, first-holds, second-holds}
 use Rattle.account.specs.DayEnd.{listed, every}
 
 pub listed-length : {A : Type 0} (n : ℕ) (f : ℕ → A) → length (listed n f) ≡ n
@@ -38,6 +38,10 @@ each-passes (suc n) test all i h =
       | inl e ↦ ap test e ∙ second-holds (every n test) (test n) all
       | inr l ↦ each-passes n test (first-holds (every n test) (test n) all) i l
     ]
+
+pub all-pass : (n : ℕ) (test : ℕ → Bool) → ((i : ℕ) → i < n → test i ≡ true) → every n test ≡ true
+all-pass zero test each = refl
+all-pass (suc n) test each = both-hold (every n test) (test n) (all-pass n test (λ i h. each i (omega arith))) (each n (omega arith))
 
 -- what a pass that tests one number after the other knows: as long as each passed, every one so far does; one that fails settles the answer
 module _ (test : ℕ → Bool) where

@@ -4,14 +4,13 @@ use mathlib.Core.Bool.{Bool, true, true≢false}
 use mathlib.Core.List.{List, [], _∷_}
 use Prim.Native.Nat.{ℕ, zero, suc, _+_, _≤_, _<_}
 use native.Mathlib.Omega.{arith}
-use borrow.Author.Tests.{le-leb}
 use lib.Dec.{ltb}
 use lib.ListN.{getD, length, length-set, set}
 use Rattle.terms.specs.declared.measure.Measure.the-variants.{OpeningCash}
 use Rattle.terms.specs.declared.refusal.Refusal.{Refusal}
 use Rattle.terms.specs.declared.refusal.Refusal.the-variants.{OutOfPlace, OutOfRange}
-use Rattle.terms.specs.Ranges.{rangeOf, _to_, _∈_}
-use Rattle.terms.proofs.Ranges.{first-holds, inside, second-holds}
+use Rattle.terms.specs.Ranges.{rangeOf, _to_}
+use Rattle.terms.proofs.Ranges.{first-holds, inside, second-holds, within}
 use Rattle.entries.specs.Entries.{kindOf}
 use Rattle.entries.specs.Table.{codeOf}
 use Rattle.entries.specs.declared.entry.Contract as Contracts·of
@@ -37,6 +36,7 @@ use Rattle.demands.specs.Gift.{RoomFor, Roomier, RoomierTables, XMore, r
 use Rattle.demands.specs.GiftRuns.{Alike, BookBeside, higher, more, same}
 use Rattle.demands.proofs.EntriesToo.{entry-too}
 use Rattle.demands.proofs.GiftOfLists.{richer-more}
+use Rattle.demands.proofs.Relisted.{same-row}
 
 -- the second's account, by the stage of both: X fen more from the opening on
 abbrev givenAt : Stage → ℕ → Account → Account
@@ -74,12 +74,6 @@ put-beside (x ∷ xs) (y ∷ ys) (suc m) p q roomier long so-far (suc u) = put-b
 -- a check that passes and a verdict that accepts
 pub both-pass : (passed : Bool) (why : Refusal) (rest : Verdict) → passed ≡ true → rest ≡ Accepted → (passed else why then rest) ≡ Accepted
 both-pass passed why rest e accepted = rw e accepted
-
-pub opening-within : (cash : ℕ) → cash ≤ 1_000_000_000_000_000 → (cash ∈ rangeOf OpeningCash) ≡ true
-opening-within cash few = rw (le-leb 0 cash (omega arith), le-leb cash 1_000_000_000_000_000 few) refl
-
-pub same-row : (p : Underlyings·of.Underlying) → Roomier p p
-same-row p = record { class = refl; close = refl; rights = omega arith; total = omega arith; daily = omega arith }
 
 -- a row of set-up is in its place before the opening alone
 unopened : (X : ℕ) (stage : Stage) (kind : ℕ) (a : Account) → 16 ≤ kind → inPlace stage kind ≡ true → givenAt stage X a ≡ a
@@ -158,7 +152,7 @@ module _ (X : ℕ) (b b' : Book) (f : Figures) (so : Abreast X b b') where
   opening-onward : (cash : ℕ) → cash + X ≤ 1_000_000_000_000_000 → Onward X b b' f (Opening cash) (Opening (cash + X))
   unfolding bookAfter
   opening-onward cash room = (
-    both-pass _ OutOfRange Accepted (opening-within (cash + X) room) refl,
+    both-pass _ OutOfRange Accepted (within (cash + X) (rangeOf OpeningCash) (omega arith) room) refl,
     record {
       stage = refl;
       tables = so .tables;

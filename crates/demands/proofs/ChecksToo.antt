@@ -14,8 +14,8 @@ use Rattle.terms.specs.declared.refusal.Refusal.{Refusal}
 use Rattle.account.specs.Verdicts.{_else_then_}
 use Rattle.account.specs.declared.judged.Verdict.{Verdict}
 use Rattle.account.specs.declared.judged.Verdict.the-variants.{Accepted}
+use Rattle.terms.proofs.Ranges.{within}
 use Rattle.account.proofs.Passed.{went-on}
-use Rattle.demands.proofs.DayEndLengths.{within}
 
 -- a check that is passed too, before a verdict that is accepted too
 pub check-too : (test test' : Bool) (why : Refusal) (rest rest' : Verdict) → (test ≡ true → test' ≡ true) → (rest ≡ Accepted → rest' ≡ Accepted)

@@ -2,21 +2,17 @@
 use mathlib.Core.Path.{_≡_}
 use mathlib.Core.Bool.{true}
 use mathlib.Core.Logic.{_↔_}
-use Prim.Native.Nat.{ℕ, _+_, _-_, _/_, _%_, _≤_, min}
+use Prim.Native.Nat.{ℕ, _+_, _-_, _/_, _%_, min}
 use native.Mathlib.Omega.{arith}
-use borrow.Author.Tests.{le-leb, eqb-true, eq-eqb}
+use borrow.Author.Tests.{eqb-true, eq-eqb}
 use lib.Dec.{eqb}
 use Rattle.terms.specs.Ranges.{rangeOf, _to_, _∈_}
 use Rattle.terms.specs.declared.measure.Measure.the-variants.{Contracts, Underlyings}
-use Rattle.terms.specs.declared.measure.Range.{Range}
-use Rattle.terms.proofs.Ranges.{first-holds, second-holds, inside}
+use Rattle.terms.proofs.Ranges.{first-holds, second-holds, inside, within}
 use Rattle.entries.specs.Table.{lengthOf, countsAllowed, lengthFits}
 use Rattle.entries.specs.declared.kind.Kind.the-variants.{DayEnd}
 use Rattle.entries.proofs.Limits.{counts-inside}
 use Rattle.entries.proofs.Runs.{total-fours}
-
-pub within : (x : ℕ) (range : Range) → range .0 ≤ x → x ≤ range .1 → (x ∈ range) ≡ true
-within x range from till = rw (le-leb _ _ from, le-leb _ _ till)
 
 pub day-end-lengths : (len : ℕ) → (lengthFits DayEnd len ≡ true) ↔ ((n : ℕ) × (m : ℕ) × (countsAllowed n m ≡ true) × (lengthOf DayEnd n m ≡ len))
 unfolding lengthFits

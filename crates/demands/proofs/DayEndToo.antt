@@ -22,15 +22,12 @@ use Rattle.account.specs.declared.tables.Tables.{Tables}
 use Rattle.account.proofs.Listed.{listed-length, listed-at}
 use Rattle.account.proofs.Sums.{Σ-same}
 use Rattle.demands.specs.Gift.{Roomier, RoomierTables, richer}
-use Rattle.demands.proofs.Relisted.{Too, relisted, margin-same}
+use Rattle.demands.proofs.Relisted.{Too, margin-same, relisted, same-row}
 
 -- a row with a new close, or as it was where the tables have no such row
 closed-roomier : (there : Bool) (p q : Underlying) (price : ℕ) → Roomier p q → Roomier (cond there (closed p price) p) (cond there (closed q price) q)
 closed-roomier true p q price r = record { class = r .class; close = refl; rights = r .rights; total = r .total; daily = r .daily }
 closed-roomier false p q price r = r
-
-none-roomier : Roomier noUnderlying noUnderlying
-none-roomier = record { class = refl; close = refl; rights = omega arith; total = omega arith; daily = omega arith }
 
 -- row beside row, and nothing past the last
 listed-roomier : (size : ℕ) (p q : ℕ → Underlying) → ((u : ℕ) → Roomier (p u) (q u))
@@ -41,7 +38,7 @@ listed-roomier size p q each u =
       | no past ↦
           let first = List·getD-eq-default (listed size p) noUnderlying {n = u} (omega (arith, listed-length size p)) in
           let second = List·getD-eq-default (listed size q) noUnderlying {n = u} (omega (arith, listed-length size q)) in
-          rw (first, second) none-roomier
+          rw (first, second) (same-row noUnderlying)
     ]
 
 module _ (t : Tables) (rows : List Underlying) (roomier : RoomierTables t (relisted t rows)) where

@@ -1,14 +1,15 @@
 -- Two lists side by side: the second's tables are allowed because their limits are and all else is the first's, its cash because the ceiling holds with X added; both books are open from the start and stay so, so an entry alone is ever accepted, and both read the same.
 use mathlib.Core.Path.{_≡_, refl, sym, ap, subst, _∙_}
-use mathlib.Core.Bool.{Bool, true, true≢false, _&&_}
+use mathlib.Core.Bool.{true, true≢false}
 use mathlib.Core.List.{List}
-use Prim.Native.Nat.{ℕ, zero, suc, _+_, _≤_, _<_}
+use Prim.Native.Nat.{ℕ, _+_, _≤_, _<_}
 use native.Mathlib.Omega.{arith}
 use lib.Dec.{leb, ltb}
 use lib.ListN.{length}
-use Rattle.terms.specs.Ranges.{_to_}
+use Rattle.terms.specs.Ranges.{_to_, rangeOf}
+use Rattle.terms.specs.declared.measure.Measure.the-variants.{OpeningCash}
 use Rattle.terms.specs.declared.refusal.Refusal.the-variants.{OutOfPlace, OutOfRange}
-use Rattle.terms.proofs.Ranges.{first-holds, inside}
+use Rattle.terms.proofs.Ranges.{both-hold, first-holds, inside, within}
 use Rattle.entries.specs.Entries.{kindOf}
 use Rattle.entries.specs.Table.{codeOf}
 use Rattle.entries.specs.declared.entry.Entry.{Entry}
@@ -25,6 +26,7 @@ use Rattle.account.specs.declared.judged.Verdict.{Verdict}
 use Rattle.account.specs.declared.judged.Verdict.the-variants.{Accepted}
 use Rattle.account.specs.declared.tables.Tables.{Tables}
 use Rattle.account.proofs.Bounds.{four}
+use Rattle.account.proofs.Listed.{all-pass}
 use Rattle.account.proofs.Passed.{went-on}
 use Rattle.rows.specs.Given.{listVerdict, tablesAllowed}
 use Rattle.set_up.specs.Stages.{bookAfter, entered, inPlace, opened, recordVerdict}
@@ -35,16 +37,9 @@ use Rattle.set_up.specs.declared.stages.Stage.the-variants.{Entries}
 use Rattle.desk.specs.Runs.{Ran, listBy, listRun, runFrom}
 use Rattle.desk.proofs.Places.{few-answers}
 use Rattle.demands.specs.GiftRuns.{GivenBeside, same}
-use Rattle.demands.proofs.BooksBeside.{Abreast, Room, both-pass, opening-within, was-accepted, when-accepted}
+use Rattle.demands.proofs.BooksBeside.{Abreast, Room, both-pass, was-accepted, when-accepted}
 use Rattle.demands.proofs.Relisted.{relisted, roomier-relisted}
 use Rattle.demands.proofs.RunsBeside.{AllAccepted, InStep, ReadsOn, both-so, together}
-
-all-pass : (n : ℕ) (test : ℕ → Bool) → ((i : ℕ) → i < n → test i ≡ true) → every n test ≡ true
-all-pass zero test so = refl
-all-pass (suc n) test so = rw (all-pass n test (λ i h. so i (omega arith)), so n (omega arith)) refl
-
-both-hold : (a b : Bool) → a ≡ true → b ≡ true → (a && b) ≡ true
-both-hold a b e e' = rw (e, e') refl
 
 -- the first's tables with other rows of underlyings, each of them allowed
 relisted-too : (t : Tables) (rows : List Underlyings·of.Underlying) (cash cash' : ℕ) → ((u : ℕ) → u < t .m → underlyingAllowed (underlying (relisted t rows) u) ≡ true) → cash' ≤ 1_000_000_000_000_000
@@ -55,7 +50,7 @@ relisted-too t rows cash cash' allowed room accepted =
     let both = went-on _ OutOfRange Accepted (some .1) .0 in
     let known = four (leb (t .m) 8) (leb (t .n) 64) (every (t .m) _) (every (t .n) _) (first-holds (tablesAllowed t) _ both) in
     let tables : tablesAllowed (relisted t rows) ≡ true = both-hold _ _ (both-hold _ _ (both-hold _ _ (known .0) (known .1)) (all-pass (t .m) _ allowed)) (known .3) in
-    both-pass _ OutOfPlace _ (some .0) (both-pass _ OutOfRange Accepted (both-hold _ _ tables (opening-within cash' room)) refl)
+    both-pass _ OutOfPlace _ (some .0) (both-pass _ OutOfRange Accepted (both-hold _ _ tables (within cash' (rangeOf OpeningCash) (omega arith) room)) refl)
 
 given-too : (X : ℕ) (t t' : Tables) (cash cash' : ℕ) → GivenBeside X t t' cash cash' → cash + X ≤ 1_000_000_000_000_000 → listVerdict t cash ≡ Accepted → listVerdict t' cash' ≡ Accepted
 given-too X t t' cash cash' beside room accepted =

@@ -2,6 +2,7 @@
 use mathlib.Core.Path.{_≡_, refl}
 use mathlib.Core.List.{List}
 use Prim.Native.Nat.{ℕ}
+use native.Mathlib.Omega.{arith}
 use Rattle.terms.specs.declared.kind.OrderKind.{OrderKind}
 use Rattle.terms.specs.declared.kind.OrderKind.the-variants.{BuyOpen, SellClose, SellOpen, BuyClose, CoveredOpen, CoveredClose}
 use Rattle.entries.specs.declared.entry.Contract.{Contract}
@@ -36,6 +37,9 @@ module _ {t t' : Tables} (r : RoomierTables t t') where
 
   pub relisted-roomier : RoomierTables t (relisted t (t' .underlyings))
   relisted-roomier = record { contracts = refl; n = refl; m = refl; rows = r .rows }
+
+pub same-row : (p : Underlying) → Roomier p p
+same-row p = record { class = refl; close = refl; rights = omega arith; total = omega arith; daily = omega arith }
 
 -- margin is made of the class and the close, not of the limits
 pub margin-same : (k : Contract) (p q : Underlying) → Roomier p q → marginBy k q ≡ marginBy k p

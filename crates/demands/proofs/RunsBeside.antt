@@ -1,13 +1,10 @@
 -- Two runs that read alike go side by side: turn by turn the second accepts what the first accepts, so both books stay abreast after each answer and both runs end together.
-use mathlib.Core.Path.{_≡_, refl, sym, ap, subst, _∙_}
+use mathlib.Core.Path.{_≡_, refl, ap, subst, _∙_}
 use mathlib.Core.List.{List, _∷_, map}
-use Prim.Native.Nat.{ℕ, zero, suc, _+_, _-_, _≤_, _<_}
+use Prim.Native.Nat.{ℕ, zero, suc, _+_, _≤_, _<_}
 use native.Mathlib.Decide.{decLt}
 use native.Mathlib.Omega.{arith}
-use lib.ListN.{getD, length}
-use Rattle.terms.specs.Refusals.{numberOf}
-use Rattle.terms.specs.declared.refusal.Refusal.the-variants.{CutShort}
-use Rattle.terms.proofs.Refusals.{placed, reasons}
+use lib.ListN.{length}
 use Rattle.entries.specs.declared.entry.Entry.{Entry}
 use Rattle.entries.specs.declared.entry.Figures.{Figures}
 use Rattle.reading.specs.Reading.{readAt}
@@ -25,14 +22,13 @@ use Rattle.desk.proofs.Turns.{no-byte}
 use Rattle.demands.specs.Each.{Each}
 use Rattle.demands.specs.GiftRuns.{Alike}
 use Rattle.demands.proofs.BooksBeside.{Abreast, Room, entered-onward}
+use Rattle.demands.proofs.PaperNumbers.{refusal-number}
 use Rattle.demands.proofs.RunsTold.{read-goes-on, unread-ends}
 
 -- no refusal has the number 0
 accepted-number : (v : Verdict) → numberIn v ≡ 0 → v ≡ Accepted
 accepted-number Accepted e = refl
-accepted-number (Refused why) e =
-    let first : why ≡ CutShort = sym (placed why) ∙ ap (λ (n : ℕ). getD reasons (n - 1) CutShort) e in
-    absurd (omega (arith, e, ap numberOf first))
+accepted-number (Refused why) e = absurd (omega (arith, refusal-number why .0, e))
 
 -- the numbers of the answers are all 0
 abbrev pub AllAccepted : Ran → Type 0

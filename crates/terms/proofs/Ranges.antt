@@ -1,8 +1,8 @@
--- What a passed range test tells: a conjunction that holds has both its parts, and each part is an order of numbers.
+-- What a passed range test tells, and what passes one: a conjunction holds where both its parts do, and each part is an order of numbers.
 use mathlib.Core.Path.{_≡_, refl}
 use mathlib.Core.Bool.{Bool, true, false, _&&_}
 use Prim.Native.Nat.{ℕ, _≤_, _%_}
-use borrow.Author.Tests.{leb-true, eqb-true}
+use borrow.Author.Tests.{le-leb, leb-true, eqb-true}
 use lib.Dec.{leb, eqb}
 use Rattle.terms.specs.declared.measure.Range.{Range}
 use Rattle.terms.specs.declared.measure.Measure.the-variants.{Unit}
@@ -17,11 +17,17 @@ second-holds true b h = h
 second-holds false true h = refl
 second-holds false false h = h
 
+pub both-hold : (a b : Bool) → a ≡ true → b ≡ true → (a && b) ≡ true
+both-hold a b h h' = rw (h, h')
+
 pub inside : (x : ℕ) (range : Range) → (x ∈ range) ≡ true → (range .0 ≤ x) × (x ≤ range .1)
 inside x range h =
     let from = leb (range .0) x in
     let till = leb x (range .1) in
     (leb-true _ _ (first-holds from till h), leb-true _ _ (second-holds from till h))
+
+pub within : (x : ℕ) (range : Range) → range .0 ≤ x → x ≤ range .1 → (x ∈ range) ≡ true
+within x range from till = both-hold (leb (range .0) x) (leb x (range .1)) (le-leb _ _ from) (le-leb _ _ till)
 
 pub unit-inside : (unit : ℕ) → unitAllowed unit ≡ true → (100 ≤ unit) × (unit ≤ 100_000) × (unit % 100 ≡ 0)
 unit-inside unit h =
