@@ -1,6 +1,7 @@
 -- What this product promises, as theorems over the crates' definitions and over the contracts generated from their functions.
 pub mod BooksTold
 pub mod DayEndLengths
+pub mod EntriesTold
 pub mod EntriesToo
 pub mod EveryEntry
 pub mod EveryInput
@@ -9,7 +10,6 @@ pub mod GiftOfRuns
 pub mod LentBuffer
 pub mod OneOutcome
 pub mod OrderToo
-pub mod OrdersTold
 pub mod Packing
 pub mod ReadBytes
 pub mod ReadWritten
