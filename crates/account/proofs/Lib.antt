@@ -8,6 +8,7 @@ pub mod Decided
 pub mod FillSound
 pub mod Flags
 pub mod Holdings
+pub mod InOrder
 pub mod Installed
 pub mod Kept
 pub mod KindNumbers

@@ -6,7 +6,7 @@ use borrow.Author.Tests.{leb-true, ltb-true}
 use lib.Dec.{leb, ltb}
 use lib.ListN.{set, length-set}
 use Rattle.terms.specs.Ranges.{rangeOf, _∈_}
-use Rattle.terms.specs.declared.measure.Measure.the-variants.{UnitsAtOnce, LockedUnits}
+use Rattle.terms.specs.declared.measure.Measure.the-variants.{LockedUnits}
 use Rattle.terms.specs.declared.refusal.Refusal.the-variants.{OutOfRange, CeilingPassed, SpareTooFew}
 use Rattle.terms.proofs.Ranges.{first-holds, inside}
 use Rattle.account.specs.Changes.{applied}
@@ -28,7 +28,7 @@ module _ (t : Tables) (a : Account) (u : ℕ) where
   known : (units : ℕ) (rest : Verdict) → (unitsAllowed t u units else OutOfRange then rest) ≡ Accepted → (u < t .m) × (rest ≡ Accepted)
   known units rest e =
       let allowed = went-on (unitsAllowed t u units) OutOfRange rest e in
-      (ltb-true _ _ (first-holds (ltb u (t .m)) (units ∈ rangeOf UnitsAtOnce) (allowed .0)), allowed .1)
+      (ltb-true _ _ (first-holds (ltb u (t .m)) _ (allowed .0)), allowed .1)
 
   locking-sound : (units : ℕ) → Sound t a → u < t .m → coveredUnits t a u + reservedUnits t a u ≤ units → units ≤ 2_000_000_000 → Sound t (applied a (locking a u units))
   locking-sound units s there used most =

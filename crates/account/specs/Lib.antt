@@ -3,6 +3,7 @@ pub mod Changes
 pub mod Checks
 pub mod DayEnd
 pub mod Fills
+pub mod InOrder
 pub mod Locks
 pub mod Money
 pub mod Opening

@@ -5,6 +5,7 @@ pub mod BooksTold
 pub mod ChecksToo
 pub mod DayEndLengths
 pub mod DayEndToo
+pub mod EntriesTold
 pub mod EntriesToo
 pub mod EveryEntry
 pub mod EveryInput
@@ -19,7 +20,6 @@ pub mod LocksToo
 pub mod OneAnswer
 pub mod OneOutcome
 pub mod OrderToo
-pub mod OrdersTold
 pub mod Packing
 pub mod PaperNumbers
 pub mod ReadBytes

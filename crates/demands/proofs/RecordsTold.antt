@@ -26,7 +26,8 @@ use Rattle.writing.specs.Writing as writing
 use Rattle.writing.specs.Writing.{lengthFor, countsBarred, writtenFor, bufferAfter}
 use Rattle.writing.specs.declared.Written.{Written}
 use Rattle.writing.specs.declared.Written.the-variants as Written·of
-use Rattle.demands.specs.InOrder.{first, codeUnlisted, readingTests, writingTests}
+use Rattle.account.specs.InOrder.{first}
+use Rattle.demands.specs.InOrder.{codeUnlisted, readingTests, writingTests}
 
 number : Reading → ℕ
 number read = reading.numberIn (read .answer)

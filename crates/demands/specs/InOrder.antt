@@ -1,30 +1,29 @@
--- The refusals of reading, of writing and of an order, each as one list in document 01's order and numbers ("Refusal numbers", its table and last paragraphs): the first test that holds gives the number.
-use mathlib.Core.Bool.{Bool, true, false, cond, not, _&&_}
+-- The refusals of reading, of writing and of a record of a book, each as one list in document 01's order and numbers ("Refusal numbers", its table and last paragraphs; "Numbers"): the first test that holds gives the number. Those of an open account's entries are the account's.
+use mathlib.Core.Bool.{Bool, true, false, not, _&&_}
 use mathlib.Core.List.{List, [], _∷_}
-use Prim.Native.Nat.{ℕ, _+_}
-use lib.Dec.{leb, ltb}
-use lib.IntN.{pos}
+use Prim.Native.Nat.{ℕ, _%_}
+use lib.Dec.{ltb, eqb}
 use lib.ListN.{length}
-use lib.Signed.{leZ}
-use Rattle.terms.specs.Codes.{kindCode}
-use Rattle.entries.specs.Entries.{entryOf}
-use Rattle.entries.specs.Table.{isDayEnd, lengthFits, countsFit}
+use Rattle.entries.specs.Entries.{entryOf, kindOf}
+use Rattle.entries.specs.Table.{codeOf, isDayEnd, lengthFits, countsFit}
+use Rattle.entries.specs.declared.entry.Contract.{Contract}
 use Rattle.entries.specs.declared.entry.Entry.{Entry}
 use Rattle.entries.specs.declared.entry.EntryCoded.{EntryCoded}
 use Rattle.entries.specs.declared.entry.EntryCoded.the-variants as Entry·answer
-use Rattle.entries.specs.declared.entry.Order.{Order}
+use Rattle.entries.specs.declared.entry.Figures.{Figures}
+use Rattle.entries.specs.declared.entry.Underlying.{Underlying}
 use Rattle.entries.specs.declared.kind.Kind.{Kind}
 use Rattle.entries.specs.declared.kind.KindCoded.{KindCoded}
 use Rattle.entries.specs.declared.kind.KindCoded.the-variants as Kind·answer
 use Rattle.reading.specs.Reading.{lengthAt, nAt, mAt, fieldsAt}
 use Rattle.writing.specs.Writing.{lengthFor, countsBarred}
 use Rattle.account.specs.Checks.{member}
-use Rattle.account.specs.declared.judged.Facts.{Facts}
-
--- the number of the first test that holds, 0 where none does
-abbrev pub first : List (Bool × ℕ) → ℕ
-first [] = 0
-first (t ∷ ts) = cond (t .0) (t .1) (first ts)
+use Rattle.account.specs.InOrder.{entryTests, outside}
+use Rattle.account.specs.declared.tables.Tables.{Tables}
+use Rattle.set_up.specs.Stages.{bySetUp}
+use Rattle.set_up.specs.declared.stages.Book.{Book}
+use Rattle.set_up.specs.declared.stages.Stage.{Stage}
+use Rattle.set_up.specs.declared.stages.Stage.the-variants.{Underlyings, Contracts, Entries}
 
 abbrev pub codeUnlisted : EntryCoded → Bool
 codeUnlisted (Entry·answer.Listed entry) = false
@@ -58,20 +57,39 @@ writingTests entry size =
     ∷ (ltb size (lengthFor entry), 17)  -- "then 17"
     ∷ []
 
--- is an order of one of the kinds?
-abbrev pub among : Order → List ℕ → Bool
-among o kinds = member (kindCode (o .kind)) kinds
+-- "a book is kinds 16, then 17, then one 18, then kinds 1 to 8": what is in its place at a stage, its own kinds and that which ends it
+abbrev pub due : Stage → List ℕ
+due Underlyings = 16 ∷ 17 ∷ []
+due Contracts = 17 ∷ 18 ∷ []
+due Entries = 1 ∷ 2 ∷ 3 ∷ 4 ∷ 5 ∷ 6 ∷ 7 ∷ 8 ∷ []
 
--- an order, by its facts: the kinds that meet a test, and when it fails
-abbrev pub orderTests : Facts → Order → List (Bool × ℕ)
-orderTests f o =
-    (among o (1 ∷ 2 ∷ 3 ∷ 4 ∷ 5 ∷ 6 ∷ []) && not (f .allowed), 4)  -- "a value outside its range, number not in the tables, covered kind on a put"
-    ∷ (among o (1 ∷ 2 ∷ 3 ∷ 4 ∷ 5 ∷ 6 ∷ []) && not (ltb (f .last) (o .number)), 6)  -- "order number not above the last accepted"
-    ∷ (among o (1 ∷ 2 ∷ 3 ∷ 4 ∷ 5 ∷ 6 ∷ []) && not (ltb (f .place) 32), 8)  -- "32 orders resting"
-    ∷ (among o (2 ∷ 4 ∷ 6 ∷ []) && not (leb (f .closing .0 + o .quantity) (f .position .0)), 9)  -- "position too small to close"
-    ∷ (among o (1 ∷ []) && not (leb (f .rights .0 + o .quantity) (f .limits .rights)), 10)  -- "rights .. limit passed"
-    ∷ (among o (1 ∷ 3 ∷ 5 ∷ []) && not (leb (f .total .0 + o .quantity) (f .limits .total)), 11)  -- "total .. limit passed"
-    ∷ (among o (1 ∷ []) && not (leb (f .holding .bought .0 + o .quantity) (f .limits .daily)), 12)  -- "daily limit passed"
-    ∷ (among o (5 ∷ []) && not (leb (f .needed .0) (f .spare .0)), 13)  -- "spare units too few"
-    ∷ (among o (1 ∷ 3 ∷ 4 ∷ 6 ∷ []) && not (leZ (pos (f .hold)) (f .available)), 14)  -- "hold .. greater than available"
+-- set-up, by the tables so far
+abbrev pub underlyingTests : Tables → Underlying → List (Bool × ℕ)
+underlyingTests t row =
+    (outside 1 10_000_000 (row .close), 4)  -- "prior close .. 1 to 10,000,000"
+    ∷ (outside 0 10_000 (row .rights), 4)  -- "limits 0 to 10,000"
+    ∷ (outside 0 10_000 (row .total), 4)  -- "limits 0 to 10,000"
+    ∷ (outside 0 10_000 (row .daily), 4)  -- "limits 0 to 10,000"
+    ∷ (not (ltb (t .m) 8), 4)  -- "a 9th underlying"
     ∷ []
+
+abbrev pub contractTests : Tables → Contract → List (Bool × ℕ)
+contractTests t row =
+    (not (ltb (row .underlying) (t .m)), 4)  -- "number not in the tables"
+    ∷ (outside 1 10_000_000 (row .strike), 4)  -- "strike .. 1 to 10,000,000"
+    ∷ (outside 100 100_000 (row .unit), 4)  -- "contract unit 100 to 100,000"
+    ∷ (not (eqb (row .unit % 100) 0), 4)  -- "a multiple of 100"
+    ∷ (outside 0 10_000_000 (row .settlement), 4)  -- "settlement price 0 to 10,000,000 (zero is a price)"
+    ∷ (not (ltb (t .n) 64), 4)  -- "65th contract"
+    ∷ []
+
+abbrev pub openingTests : ℕ → List (Bool × ℕ)
+openingTests cash =
+    (outside 0 1_000_000_000_000_000 cash, 4)  -- "opening cash 0 to 10^15"
+    ∷ []
+
+-- a record of a book: "5 first, then 4", and an entry's own
+abbrev pub recordTests : Book → Entry → Figures → List (Bool × ℕ)
+recordTests b entry f =
+    (not (member (codeOf (kindOf entry)) (due (b .stage))), 5)  -- "record out of its place, or an opening with no contract yet"
+    ∷ bySetUp (underlyingTests (b .tables)) (contractTests (b .tables)) openingTests (entryTests (b .tables) (b .account) entry f) entry
