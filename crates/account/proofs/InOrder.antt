@@ -14,7 +14,7 @@ use Rattle.terms.specs.Refusals.{numberOf}
 use Rattle.terms.specs.declared.count.Units.{Units}
 use Rattle.terms.specs.declared.kind.OrderKind.{OrderKind}
 use Rattle.terms.specs.declared.kind.OrderKind.the-variants.{BuyOpen, SellClose, SellOpen, BuyClose, CoveredOpen, CoveredClose}
-use Rattle.terms.specs.declared.measure.Measure.the-variants.{Price, Settlement, Quantity, Transfer, UnitsAtOnce, Money, LockedUnits}
+use Rattle.terms.specs.declared.measure.Measure.the-variants.{Price, Settlement, Quantity, UnitsAtOnce, Money, LockedUnits}
 use Rattle.terms.specs.declared.refusal.Refusal.{Refusal}
 use Rattle.terms.specs.declared.refusal.Refusal.the-variants.{OutOfRange, NoSuchOrder, FillBarred, CeilingPassed, CashBelowZero, AvailablePassed, SpareTooFew}
 use Rattle.terms.specs.declared.right.Right.{Right}
@@ -34,7 +34,7 @@ use Rattle.account.specs.Orders.{coveredPut, factsIn, factsOf, noFacts, 
 use Rattle.account.specs.Rows.{contract, holding}
 use Rattle.account.specs.Steps.{refusalOf}
 use Rattle.account.specs.Totals.{spareUnits}
-use Rattle.account.specs.Transfers.{depositVerdict, withdrawVerdict}
+use Rattle.account.specs.Transfers.{amountAllowed, depositVerdict, withdrawVerdict}
 use Rattle.account.specs.Verdicts.{_else_then_, numberIn}
 use Rattle.account.specs.declared.account.Account.{Account}
 use Rattle.account.specs.declared.account.Holding.{Holding}
@@ -90,13 +90,13 @@ module _ (s : Sheet) (amount : ℕ) where
   deposit-told : Told (depositVerdict s amount) (depositTests s amount)
   unfolding depositVerdict
   deposit-told =
-      next (one (amount ∈ rangeOf Transfer) OutOfRange refl)
+      next (one (amountAllowed amount) OutOfRange refl)
       (next (one (s .cash + s .premium + amount ∈ rangeOf Money) CeilingPassed (ceiling (rangeOf Money .1) (s .cash + s .premium + amount))) accepted)
 
   withdraw-told : Told (withdrawVerdict s amount) (withdrawTests s amount)
   unfolding withdrawVerdict
   withdraw-told =
-      next (one (amount ∈ rangeOf Transfer) OutOfRange refl)
+      next (one (amountAllowed amount) OutOfRange refl)
       (next (one (leZ (pos amount) (availableOf s)) AvailablePassed refl) accepted)
 
 module _ (t : Tables) (u units : ℕ) where

@@ -9,9 +9,7 @@ use lib.IntN.{pos}
 use lib.Signed.{leZ}
 use Rattle.terms.specs.Codes.{kindCode}
 use Rattle.terms.specs.Kinds.{movesOf, opensOf, buysOf}
-use Rattle.terms.specs.Ranges.{rangeOf, _∈_}
 use Rattle.terms.specs.declared.kind.OrderKind.the-variants.{BuyOpen, BuyClose}
-use Rattle.terms.specs.declared.measure.Measure.the-variants.{Transfer}
 use Rattle.terms.specs.declared.refusal.Refusal.the-variants.{OutOfRange, NoSuchOrder, SpareTooFew, AvailablePassed}
 use Rattle.rules.specs.Count.{forCount}
 use Rattle.entries.specs.declared.entry.Fill.{Fill}
@@ -22,7 +20,7 @@ use Rattle.account.specs.Rows.{contract, holding, order}
 use Rattle.account.specs.Sound.{Sound}
 use Rattle.account.specs.Sums.{_when_}
 use Rattle.account.specs.Totals.{countOf, isKind, coveredUnits, reservedUnits, spareUnits}
-use Rattle.account.specs.Transfers.{withdrawVerdict}
+use Rattle.account.specs.Transfers.{amountAllowed, withdrawVerdict}
 use Rattle.account.specs.declared.account.Account.{Account}
 use Rattle.account.specs.declared.judged.Named.{Named}
 use Rattle.account.specs.declared.judged.Verdict.the-variants.{Accepted}
@@ -38,7 +36,7 @@ use Rattle.account.proofs.Taken.{resting-taken, holds-taken}
 pub withdraw-exact : (a : Account) (amount : ℕ) → withdrawVerdict (a .sheet) amount ≡ Accepted → a .sheet .holds + a .sheet .margin + amount ≤ a .sheet .cash
 unfolding withdrawVerdict
 withdraw-exact a amount e =
-    let range = went-on (amount ∈ rangeOf Transfer) OutOfRange _ e in
+    let range = went-on (amountAllowed amount) OutOfRange _ e in
     let within = went-on (leZ (pos amount) (availableOf (a .sheet))) AvailablePassed _ (range .1) in
     leb-true _ _ (sym (reaches (a .sheet) amount) ∙ within .0)
 

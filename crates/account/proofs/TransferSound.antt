@@ -4,13 +4,13 @@ use Prim.Native.Nat.{ℕ, _+_, _-_, _≤_}
 use native.Mathlib.Omega.{arith}
 use lib.Seq.{set-out}
 use Rattle.terms.specs.Ranges.{rangeOf, _∈_}
-use Rattle.terms.specs.declared.measure.Measure.the-variants.{Transfer, Money}
+use Rattle.terms.specs.declared.measure.Measure.the-variants.{Money}
 use Rattle.terms.specs.declared.refusal.Refusal.the-variants.{OutOfRange, CeilingPassed}
 use Rattle.terms.proofs.Ranges.{inside}
 use Rattle.account.specs.Changes.{applied, ofSheet}
 use Rattle.account.specs.Rows.{noHolding}
 use Rattle.account.specs.Sound.{Sound}
-use Rattle.account.specs.Transfers.{depositVerdict, depositChange, withdrawVerdict, withdrawChange}
+use Rattle.account.specs.Transfers.{amountAllowed, depositVerdict, depositChange, withdrawVerdict, withdrawChange}
 use Rattle.account.specs.declared.account.Account.{Account}
 use Rattle.account.specs.declared.account.Sheet.{Sheet}
 use Rattle.account.specs.declared.judged.Verdict.the-variants.{Accepted}
@@ -38,7 +38,7 @@ module _ (t : Tables) (a : Account) where
   unfolding depositVerdict depositChange
   deposit-sound amount s e =
       let total = a .sheet .cash + a .sheet .premium + amount in
-      let after-range = went-on (amount ∈ rangeOf Transfer) OutOfRange _ e .1 in
+      let after-range = went-on (amountAllowed amount) OutOfRange _ e .1 in
       let ceiling = went-on (total ∈ rangeOf Money) CeilingPassed _ after-range .0 in
       cash-sound (a .sheet .cash + amount) s (omega (arith, inside total (rangeOf Money) ceiling .1))
 

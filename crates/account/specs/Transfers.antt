@@ -1,5 +1,6 @@
 -- Deposits and withdrawals (Refusal numbers: "Deposit, lock: 15. Withdraw: 14."). Both are judged by the sheet and change it alone.
 use Prim.Native.Nat.{ℕ, _+_, _-_}
+use mathlib.Core.Bool.{Bool}
 use lib.IntN.{pos}
 use lib.Signed.{leZ}
 use Rattle.terms.specs.Ranges.{rangeOf, _∈_}
@@ -13,10 +14,14 @@ use Rattle.account.specs.declared.judged.Change.{Change}
 use Rattle.account.specs.declared.judged.Verdict.{Verdict}
 use Rattle.account.specs.declared.judged.Verdict.the-variants.{Accepted}
 
--- "deposit or withdrawal 1 to 10^13"; "ceilings: cash plus covered premium 10^15" (Numbers)
+-- "deposit or withdrawal 1 to 10^13" (Numbers)
+abbrev pub amountAllowed : ℕ → Bool
+amountAllowed amount = amount ∈ rangeOf Transfer
+
+-- "ceilings: cash plus covered premium 10^15" (Numbers)
 unfoldable pub depositVerdict : Sheet → ℕ → Verdict
 depositVerdict s amount =
-    (amount ∈ rangeOf Transfer) else OutOfRange then
+    amountAllowed amount else OutOfRange then
     (s .cash + s .premium + amount ∈ rangeOf Money) else CeilingPassed then
     Accepted
 
@@ -26,7 +31,7 @@ depositChange s last amount = ofSheet (record { cash = s .cash + amount; premium
 -- "hold or withdrawal greater than available" (Refusal numbers, 14)
 unfoldable pub withdrawVerdict : Sheet → ℕ → Verdict
 withdrawVerdict s amount =
-    (amount ∈ rangeOf Transfer) else OutOfRange then
+    amountAllowed amount else OutOfRange then
     leZ (pos amount) (availableOf s) else AvailablePassed then
     Accepted
 

@@ -7,7 +7,7 @@ use native.Mathlib.Omega.{arith}
 use lib.IntN.{pos}
 use lib.Signed.{leZ}
 use Rattle.terms.specs.Ranges.{rangeOf, _∈_}
-use Rattle.terms.specs.declared.measure.Measure.the-variants.{Transfer, Money}
+use Rattle.terms.specs.declared.measure.Measure.the-variants.{Money}
 use Rattle.terms.specs.declared.refusal.Refusal.the-variants.{OutOfRange, CeilingPassed, AvailablePassed}
 use Rattle.entries.specs.declared.entry.Entry.the-variants.{Deposit, Withdraw}
 use Rattle.entries.specs.declared.entry.Figures.{Figures}
@@ -15,7 +15,7 @@ use Rattle.entries.specs.declared.entry.Underlying.{Underlying}
 use Rattle.account.specs.Changes.{applied}
 use Rattle.account.specs.Money.{availableOf}
 use Rattle.account.specs.Steps.{accountAfter, refusalOf, tablesAfter}
-use Rattle.account.specs.Transfers.{depositVerdict, depositChange, withdrawVerdict, withdrawChange}
+use Rattle.account.specs.Transfers.{amountAllowed, depositVerdict, depositChange, withdrawVerdict, withdrawChange}
 use Rattle.account.specs.declared.account.Account.{Account}
 use Rattle.account.specs.declared.judged.Verdict.the-variants.{Accepted}
 use Rattle.account.specs.declared.tables.Tables.{Tables}
@@ -33,7 +33,7 @@ module _ (X : ℕ) (t : Tables) (rows : List Underlying) (roomier : RoomierTable
       let richly = within-ceiling (s .cash + X + s .premium + amount) (omega arith) in
       record {
         accepted =
-            check-too (amount ∈ rangeOf Transfer) _ OutOfRange _ _ (λ same. same)
+            check-too (amountAllowed amount) _ OutOfRange _ _ (λ same. same)
             (check-too (s .cash + s .premium + amount ∈ rangeOf Money) _ CeilingPassed _ _ (λ less. richly) (λ same. same)) e;
         account = ap (withCash (accountAfter t a (Deposit amount) f)) (omega arith);
         tables = roomier;
@@ -47,7 +47,7 @@ module _ (X : ℕ) (t : Tables) (rows : List Underlying) (roomier : RoomierTable
       λ passed. rw (more-cash (a .sheet) X) (within-more amount X (availableOf s) passed) in
       record {
         accepted =
-            check-too (amount ∈ rangeOf Transfer) _ OutOfRange _ _ (λ same. same)
+            check-too (amountAllowed amount) _ OutOfRange _ _ (λ same. same)
             (check-too (leZ (pos amount) (availableOf s)) _ AvailablePassed _ _ more (λ same. same)) e;
         account = ap (withCash (accountAfter t a (Withdraw amount) f)) (omega (arith, withdraw-exact a amount e));
         tables = roomier;
