@@ -58,7 +58,9 @@ list-as-answered (Refused why) t cash n s = refl
 
 pub book-after-each : (κs : _) (a : _) (r : _) (s : _) → run-book.Post κs a r s → (k : ℕ) → k < r .answered
     → let bytes = now (a .0) in
-    AfterEntry (bookRun k bytes .book) (bookRun (suc k) bytes .book) (readAt bytes (bookRun k bytes .place)) (getD (now (s .1 .0)) k 0) (getD (now (s .1 .1 .0)) k (pos 0))
+    let (numbers, sums) : List ℕ × List ℤ = (now (s .1 .0), now (s .1 .1 .0)) in
+    let runs : ℕ → Ran = λ k. bookRun k bytes in
+    AfterEntry (runs k .book) (runs (suc k) .book) (readAt bytes (runs k .place)) (getD numbers k 0) (getD sums k (pos 0))
 book-after-each κs a r s p = run-after-each SoundBook AfterEntry answer-sound answer-told _ _ r _ _ _ _ newBook new-sound p
 
 -- what is returned is the book after the last answered record
@@ -67,8 +69,10 @@ book-returned κs a r s p = returned Accepted r (λ k. bookRun k (now (a .0))) _
 
 -- of tables that have as many rows as their type says: every list's do
 pub list-after-each : (κs : _) (a : _) (r : _) (s : _) → run-list.Post κs a r s → r .verdict ≡ Accepted → length (a .0 .underlyings) ≡ 8 → length (a .0 .contracts) ≡ 64 → (k : ℕ) → k < r .answered
-    → let runs : ℕ → Ran = λ k. listRun (a .0) (a .1 .0) k (now (a .1 .1 .0)) in
-    AfterEntry (runs k .book) (runs (suc k) .book) (readAt (now (a .1 .1 .0)) (runs k .place)) (getD (now (s .1 .1 .1 .0)) k 0) (getD (now (s .1 .1 .1 .1 .0)) k (pos 0))
+    → let (tables, cash, bytes) : Tables × ℕ × List ℕ = (a .0, a .1 .0, now (a .1 .1 .0)) in
+    let (numbers, sums) : List ℕ × List ℤ = (now (s .1 .1 .1 .0), now (s .1 .1 .1 .1 .0)) in
+    let runs : ℕ → Ran = λ k. listRun tables cash k bytes in
+    AfterEntry (runs k .book) (runs (suc k) .book) (readAt bytes (runs k .place)) (getD numbers k 0) (getD sums k (pos 0))
 list-after-each κs a r s p accepted underlyings contracts =
     let given = sym (ap (λ (run : Run). run .verdict) (p .0)) ∙ accepted in
     list-each SoundBook AfterEntry answer-sound answer-told _ _ r _ _ _ _ _ _ _ p given (list-sound _ _ underlyings contracts given)

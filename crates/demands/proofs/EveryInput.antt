@@ -1,11 +1,12 @@
 -- Every input gets an answer, by number: each public contract asks nothing, gives one of the paper's numbers, and where it refuses leaves what was lent as it was.
 use denote.Ref.{now}
 use mathlib.Core.Bool.{Bool, true, false, cond, _&&_}
-use mathlib.Core.List.{[], _∷_}
+use mathlib.Core.List.{List, [], _∷_}
 use mathlib.Core.Path.{_≡_, refl, sym, ap, subst, _∙_}
 use Prim.Native.Nat.{ℕ}
 use native.Mathlib.Omega.{arith}
 use lib.Dec.{ltb}
+use lib.IntN.{ℤ}
 use lib.ListN.{drop, length, take}
 use lib.Seq.{drop-at}
 use Rattle.terms.specs.Ranges.{rangeOf, _∈_}
@@ -133,14 +134,20 @@ write-rest κs a r s p typed n e =
 
 -- a list that is refused whole
 pub list-refused : (κs : _) (a : _) (r : _) (s : _) → run-list.Post κs a r s → (why : Refusal) → r .verdict ≡ Refused why
-    → (now (s .1 .1 .1 .0) ≡ now (a .1 .1 .1 .0)) × (now (s .1 .1 .1 .1 .0) ≡ now (a .1 .1 .1 .1 .0)) × (r .answered ≡ 0)
+    → let (numbers, sums) : List ℕ × List ℤ = (now (a .1 .1 .1 .0), now (a .1 .1 .1 .1 .0)) in
+    let (numbers', sums') : List ℕ × List ℤ = (now (s .1 .1 .1 .0), now (s .1 .1 .1 .1 .0)) in
+    (numbers' ≡ numbers) × (sums' ≡ sums) × (r .answered ≡ 0)
 list-refused κs a r s p = refused-list _ _ r _ _ _ _ _ _ _ p
 
 -- behind the answers every place is as it was lent
 pub list-beyond : (κs : _) (a : _) (r : _) (s : _) → run-list.Post κs a r s
-    → let k = r .answered in (drop k (now (s .1 .1 .1 .0)) ≡ drop k (now (a .1 .1 .1 .0))) × (drop k (now (s .1 .1 .1 .1 .0)) ≡ drop k (now (a .1 .1 .1 .1 .0)))
+    → let (numbers, sums) : List ℕ × List ℤ = (now (a .1 .1 .1 .0), now (a .1 .1 .1 .1 .0)) in
+    let (numbers', sums') : List ℕ × List ℤ = (now (s .1 .1 .1 .0), now (s .1 .1 .1 .1 .0)) in
+    (drop (r .answered) numbers' ≡ drop (r .answered) numbers) × (drop (r .answered) sums' ≡ drop (r .answered) sums)
 list-beyond κs a r s p = beyond-answered _ (listRun (a .0) (a .1 .0) (placesIn (now (a .1 .1 .1 .0)) (now (a .1 .1 .1 .1 .0))) (now (a .1 .1 .0))) r _ _ _ _ p
 
 pub book-beyond : (κs : _) (a : _) (r : _) (s : _) → run-book.Post κs a r s
-    → let k = r .answered in (drop k (now (s .1 .0)) ≡ drop k (now (a .1 .0))) × (drop k (now (s .1 .1 .0)) ≡ drop k (now (a .1 .1 .0)))
+    → let (numbers, sums) : List ℕ × List ℤ = (now (a .1 .0), now (a .1 .1 .0)) in
+    let (numbers', sums') : List ℕ × List ℤ = (now (s .1 .0), now (s .1 .1 .0)) in
+    (drop (r .answered) numbers' ≡ drop (r .answered) numbers) × (drop (r .answered) sums' ≡ drop (r .answered) sums)
 book-beyond κs a r s p = beyond-answered _ (bookRun (placesIn (now (a .1 .0)) (now (a .1 .1 .0))) (now (a .0))) r _ _ _ _ p

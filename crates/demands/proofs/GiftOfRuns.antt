@@ -10,6 +10,7 @@ use lib.Seq.{take-at}
 use Rattle.reading.specs.Reading.{readAt}
 use Rattle.account.specs.declared.judged.Verdict.{Verdict}
 use Rattle.account.specs.declared.judged.Verdict.the-variants.{Accepted}
+use Rattle.account.specs.declared.tables.Tables.{Tables}
 use Rattle.rows.specs.Given.{listVerdict}
 use Rattle.set_up.specs.Stages.{newBook}
 use Rattle.set_up.specs.declared.stages.Book.{Book}
@@ -116,13 +117,15 @@ module _ (X : ℕ) (s s' : List ℕ) where
       (here .0, here .1, here .2, λ k. subst (λ (r : Ran). ReadAlike X (readAt s (r .place)) (readAt s' (r .place))) (read-goes-on k s place b there entry len e) (alike (suc k)))
 
 pub list-gift : (X : ℕ) (κs κs' : _) (a a' : _) (r r' : _) (s s' : _) → run-list.Post κs a r s → run-list.Post κs' a' r' s'
-    → let runs : ℕ → Ran = λ k. listRun (a .0) (a .1 .0) k (now (a .1 .1 .0)) in
-    let runs' : ℕ → Ran = λ k. listRun (a' .0) (a' .1 .0) k (now (a' .1 .1 .0)) in
-    GivenBeside X (a .0) (a' .0) (a .1 .0) (a' .1 .0)
-    → now (a' .1 .1 .0) ≡ now (a .1 .1 .0)
-    → placesIn (now (a' .1 .1 .1 .0)) (now (a' .1 .1 .1 .1 .0)) ≡ placesIn (now (a .1 .1 .1 .0)) (now (a .1 .1 .1 .1 .0))
-    → FirstAccepts X runs r (now (s .1 .1 .1 .0))
-    → SecondToo X runs runs' r r' (now (s' .1 .1 .1 .0)) (now (s .1 .1 .1 .1 .0)) (now (s' .1 .1 .1 .1 .0))
+    → let (tables, cash, bytes) : Tables × ℕ × List ℕ = (a .0, a .1 .0, now (a .1 .1 .0)) in
+    let (tables', cash', bytes') : Tables × ℕ × List ℕ = (a' .0, a' .1 .0, now (a' .1 .1 .0)) in
+    let places = placesIn (now (a .1 .1 .1 .0)) (now (a .1 .1 .1 .1 .0)) in
+    let places' = placesIn (now (a' .1 .1 .1 .0)) (now (a' .1 .1 .1 .1 .0)) in
+    let (numbers, sums) : List ℕ × List ℤ = (now (s .1 .1 .1 .0), now (s .1 .1 .1 .1 .0)) in
+    let (numbers', sums') : List ℕ × List ℤ = (now (s' .1 .1 .1 .0), now (s' .1 .1 .1 .1 .0)) in
+    let runs : ℕ → Ran = λ k. listRun tables cash k bytes in
+    let runs' : ℕ → Ran = λ k. listRun tables' cash' k bytes' in
+    GivenBeside X tables tables' cash cash' → bytes' ≡ bytes → places' ≡ places → FirstAccepts X runs r numbers → SecondToo X runs runs' r r' numbers' sums sums'
 list-gift X κs κs' a a' r r' s s' first second beside bytes places accepts =
     let held = list-held κs a r s first (accepts .verdict) in
     let so = held-accepts held accepts in
@@ -132,12 +135,14 @@ list-gift X κs κs' a a' r r' s s' first second beside bytes places accepts =
     (list-steps X _ (a .0) (a' .0) (a .1 .0) (a' .1 .0) (now (a .1 .1 .0)) (now (a' .1 .1 .0)) beside accepted (so .1) bytes (so .0))
 
 pub book-gift : (X : ℕ) (κs κs' : _) (a a' : _) (r r' : _) (s s' : _) → run-book.Post κs a r s → run-book.Post κs' a' r' s'
-    → let runs : ℕ → Ran = λ k. bookRun k (now (a .0)) in
-    let runs' : ℕ → Ran = λ k. bookRun k (now (a' .0)) in
-    BooksAlike X (now (a .0)) (now (a' .0))
-    → placesIn (now (a' .1 .0)) (now (a' .1 .1 .0)) ≡ placesIn (now (a .1 .0)) (now (a .1 .1 .0))
-    → FirstAccepts X runs r (now (s .1 .0))
-    → SecondToo X runs runs' r r' (now (s' .1 .0)) (now (s .1 .1 .0)) (now (s' .1 .1 .0))
+    → let (bytes, bytes') : List ℕ × List ℕ = (now (a .0), now (a' .0)) in
+    let places = placesIn (now (a .1 .0)) (now (a .1 .1 .0)) in
+    let places' = placesIn (now (a' .1 .0)) (now (a' .1 .1 .0)) in
+    let (numbers, sums) : List ℕ × List ℤ = (now (s .1 .0), now (s .1 .1 .0)) in
+    let (numbers', sums') : List ℕ × List ℤ = (now (s' .1 .0), now (s' .1 .1 .0)) in
+    let runs : ℕ → Ran = λ k. bookRun k bytes in
+    let runs' : ℕ → Ran = λ k. bookRun k bytes' in
+    BooksAlike X bytes bytes' → places' ≡ places → FirstAccepts X runs r numbers → SecondToo X runs runs' r r' numbers' sums sums'
 book-gift X κs κs' a a' r r' s s' first second alike places accepts =
     let bytes = now (a .0) in
     let bytes' = now (a' .0) in

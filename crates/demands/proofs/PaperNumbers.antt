@@ -7,11 +7,11 @@ use native.Mathlib.Omega.{arith}
 use Rattle.terms.specs.Refusals.{numberOf}
 use Rattle.terms.specs.declared.refusal.Refusal.{Refusal}
 use Rattle.terms.specs.declared.refusal.Refusal.the-variants.{CutShort, UnknownKind, Misshapen, OutOfRange, OutOfPlace, StaleNumber, NoSuchOrder, OrdersFull, PositionTooSmall, RightsPassed, TotalPassed, DailyPassed, SpareTooFew, AvailablePassed, CeilingPassed, FillBarred, BufferTooShort, CashBelowZero}
+use Rattle.account.specs.InOrder.{first}
 use Rattle.account.specs.Verdicts.{numberIn}
 use Rattle.account.specs.declared.judged.Verdict.{Verdict}
 use Rattle.account.specs.declared.judged.Verdict.the-variants.{Accepted, Refused}
 use Rattle.demands.specs.Each.{Each, OneOf, paper}
-use Rattle.demands.specs.InOrder.{first}
 
 pub refusal-number : (why : Refusal) → (1 ≤ numberOf why) × OneOf paper (numberOf why)
 refusal-number CutShort = (omega arith, refl)
