@@ -2,7 +2,7 @@
 use mathlib.Core.Path.{_≡_, refl, sym, subst}
 use mathlib.Core.Logic.{_⊎_, inl, inr}
 use mathlib.Core.Bool.{Bool, true, false, _&&_}
-use Prim.Native.Nat.{ℕ, zero, suc, _+_, _*_, _^_, _≤_, _<_}
+use Prim.Native.Nat.{ℕ, zero, suc, _*_, _≤_, _<_}
 use native.Mathlib.Nat.{le-trans, le-of-lt, mul-le-mul, mul-le-mul-right, div-le-of-le-mul}
 use native.Mathlib.Omega.{arith}
 use borrow.Author.Tests.{ltb-true, eq-eqb}
@@ -30,7 +30,7 @@ use Rattle.account.specs.Totals.{isOf, countOf, countIn, overOrders, tot
 use Rattle.account.specs.declared.account.Account.{Account}
 use Rattle.account.specs.declared.account.Resting.{Resting}
 use Rattle.account.specs.declared.tables.Tables.{Tables}
-use Rattle.account.proofs.Sums.{Σ-bound, Σ-part, Σ-term}
+use Rattle.account.proofs.Sums.{Σ-bound, Σ-term}
 
 -- the tests of an underlying's record, of a contract's, of an order and of a day end each have four parts
 pub four : (a b c d : Bool) → (a && b && c && d) ≡ true → (a ≡ true) × (b ≡ true) × (c ≡ true) × (d ≡ true)

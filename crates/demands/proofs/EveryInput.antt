@@ -1,4 +1,4 @@
--- Every input gets an answer, by number: each public contract asks nothing, gives one of the paper's numbers, and where it refuses leaves what was lent as it was.
+-- Every input gets an answer, by number: each public function is proved to meet its contract, which asks nothing, gives one of the paper's numbers, and where it refuses leaves what was lent as it was.
 use denote.Ref.{now}
 use mathlib.Core.Bool.{Bool, true, false, cond, _&&_}
 use mathlib.Core.List.{List, [], _∷_}
@@ -15,19 +15,29 @@ use Rattle.terms.specs.declared.refusal.Refusal.{Refusal}
 use Rattle.terms.specs.declared.refusal.Refusal.the-variants.{BufferTooShort, Misshapen, OutOfPlace, OutOfRange}
 use Rattle.rules.specs.Charges as charges
 use Rattle.rules.specs.declared.Charge.{Charge}
+use Rattle.rules.proofs.margin.Met as margin-met
 use Rattle.rules.proofs.margin.Reads as margin
+use Rattle.rules.proofs.margin.Statement as margin-statement
+use Rattle.rules.proofs.premium.Met as premium-met
 use Rattle.rules.proofs.premium.Reads as premium
+use Rattle.rules.proofs.premium.Statement as premium-statement
+use Rattle.rules.proofs.net.Met as net-met
 use Rattle.rules.proofs.net.Reads as net
+use Rattle.rules.proofs.net.Statement as net-statement
 use Rattle.entries.specs.declared.entry.Entry.{Entry}
 use Rattle.reading.specs.Reading as reading
 use Rattle.reading.specs.Reading.{kindAt}
 use Rattle.reading.specs.declared.Reading.{Reading}
+use Rattle.reading.proofs.read.Met as read-met
 use Rattle.reading.proofs.read.Reads as read
+use Rattle.reading.proofs.read.Statement as read-statement
 use Rattle.writing.specs.Writing as writing
 use Rattle.writing.specs.Writing.{bufferAfter, countsBarred, lengthFor, recordOf, writtenFor}
 use Rattle.writing.specs.declared.Written.{Written}
 use Rattle.writing.specs.declared.Written.the-variants as Written·of
+use Rattle.writing.proofs.write.Met as write-met
 use Rattle.writing.proofs.write.Reads as write
+use Rattle.writing.proofs.write.Statement as write-statement
 use Rattle.account.specs.Verdicts.{_else_then_, numberIn}
 use Rattle.account.specs.declared.judged.Verdict.the-variants.{Accepted, Refused}
 use Rattle.account.specs.declared.tables.Tables.{Tables}
@@ -35,8 +45,12 @@ use Rattle.rows.specs.Given.{listVerdict, tablesAllowed}
 use Rattle.set_up.specs.Stages.{newBook}
 use Rattle.desk.specs.Runs.{bookRun, listRun, placesIn}
 use Rattle.desk.specs.declared.Run.{Run}
+use Rattle.desk.proofs.run_book.Met as run-book-met
 use Rattle.desk.proofs.run_book.Reads as run-book
+use Rattle.desk.proofs.run_book.Statement as run-book-statement
+use Rattle.desk.proofs.run_list.Met as run-list-met
 use Rattle.desk.proofs.run_list.Reads as run-list
+use Rattle.desk.proofs.run_list.Statement as run-list-statement
 use Rattle.demands.specs.Each.{Each, OneOf, paper}
 use Rattle.demands.specs.InOrder.{readingTests, writingTests}
 use Rattle.demands.specs.Records.{Typed}
@@ -45,6 +59,28 @@ use Rattle.demands.proofs.RecordsTold.{read-number, write-number, write
 use Rattle.demands.proofs.RunsTold.{answered-numbers, beyond-answered, list-paper, paper-numbers, refused-list}
 use Rattle.demands.proofs.Told.{margin-says, premium-says}
 use Rattle.demands.proofs.WrittenRead.{record-length}
+
+-- "every input gets an answer": run on whatever its types allow, each public function ends in what its contract says
+pub margin-answers : (M : Type 1) → margin-statement.statement M
+margin-answers M = margin-met.met
+
+pub premium-answers : (M : Type 1) → premium-statement.statement M
+premium-answers M = premium-met.met
+
+pub net-answers : (M : Type 1) → net-statement.statement M
+net-answers M = net-met.met
+
+pub read-answers : (M : Type 1) → read-statement.statement M
+read-answers M = read-met.met
+
+pub write-answers : (M : Type 1) → write-statement.statement M
+write-answers M = write-met.met
+
+pub run-list-answers : (M : Type 1) → run-list-statement.statement M
+run-list-answers M = run-list-met.met
+
+pub run-book-answers : (M : Type 1) → run-book-statement.statement M
+run-book-answers M = run-book-met.met
 
 -- "nobody has to check first"
 pub margin-asks : (κs : _) (a : _) → margin.Pre κs a
