@@ -1,5 +1,5 @@
 -- A record of a book is refused in the paper's order and numbers: its place comes first, then each of its values beside its test, or the entry's own list.
-use mathlib.Core.Path.{_≡_, refl}
+use mathlib.Core.Path.{_≡_, refl, sym, subst}
 use mathlib.Core.Bool.{not}
 use Prim.Native.Nat.{ℕ, _%_}
 use lib.Dec.{eqb, ltb}
@@ -25,7 +25,9 @@ use Rattle.set_up.specs.Stages.{bySetUp, contractVerdict, inPlace, openingVerdi
 use Rattle.set_up.specs.declared.stages.Book.{Book}
 use Rattle.set_up.specs.declared.stages.Stage.{Stage}
 use Rattle.set_up.specs.declared.stages.Stage.the-variants.{Underlyings, Contracts, Entries}
+use Rattle.demands.specs.Each.{Each, OneOf, runNumbers}
 use Rattle.demands.specs.InOrder.{contractTests, due, openingTests, recordTests, underlyingTests}
+use Rattle.demands.proofs.PaperNumbers.{first-among}
 
 each-stage : (P : Stage → Type 0) → P Underlyings × P Contracts × P Entries → (stage : Stage) → P stage
 each-stage P stages Underlyings = stages .0
@@ -93,3 +95,20 @@ module _ (b : Book) (f : Figures) where
   pub record-number : (entry : Entry) → numberIn (recordVerdict b entry f) ≡ first (recordTests b entry f)
   unfolding recordVerdict
   record-number entry = next (one (inPlace (b .stage) (codeOf (kindOf entry))) OutOfPlace (placed (kindOf entry) (b .stage))) (values-told entry) .number
+
+  -- each test of its list, and so its verdict, has one of the numbers that a run answers with
+  tests-among : (entry : Entry) → Each (λ test. OneOf runNumbers (test .1)) (recordTests b entry f)
+  tests-among (Entry·of.Deposit amount) = search
+  tests-among (Entry·of.Withdraw amount) = search
+  tests-among (Entry·of.Lock u units) = search
+  tests-among (Entry·of.Unlock u units) = search
+  tests-among (Entry·of.Order o) = search
+  tests-among (Entry·of.Fill fill) = search
+  tests-among (Entry·of.Cancel number) = search
+  tests-among (Entry·of.DayEnd n m) = search
+  tests-among (Entry·of.Underlying row) = search
+  tests-among (Entry·of.Contract row) = search
+  tests-among (Entry·of.Opening cash) = search
+
+  pub verdict-among : (entry : Entry) → OneOf runNumbers (numberIn (recordVerdict b entry f))
+  verdict-among entry = subst (OneOf runNumbers) (sym (record-number entry)) (first-among runNumbers (recordTests b entry f) refl (tests-among entry))

@@ -51,12 +51,12 @@ use Rattle.desk.proofs.run_book.Statement as run-book-statement
 use Rattle.desk.proofs.run_list.Met as run-list-met
 use Rattle.desk.proofs.run_list.Reads as run-list
 use Rattle.desk.proofs.run_list.Statement as run-list-statement
-use Rattle.demands.specs.Each.{Each, OneOf, paper}
+use Rattle.demands.specs.Each.{Each, OneOf, runNumbers}
 use Rattle.demands.specs.InOrder.{readingTests, writingTests}
 use Rattle.demands.specs.Records.{Typed}
 use Rattle.demands.proofs.PaperNumbers.{chosen, first-among}
 use Rattle.demands.proofs.RecordsTold.{read-number, write-number, write-untouched}
-use Rattle.demands.proofs.RunsTold.{answered-numbers, beyond-answered, list-paper, paper-numbers, refused-list}
+use Rattle.demands.proofs.RunsTold.{answered-numbers, beyond-answered, list-run-numbers, run-numbers, refused-list}
 use Rattle.demands.proofs.Told.{margin-says, premium-says}
 use Rattle.demands.proofs.WrittenRead.{record-length}
 
@@ -140,11 +140,11 @@ list-verdict-numbers κs a r s p = subst (λ (run : Run). OneOf (0 ∷ 4 ∷ 5 �
 pub book-verdict : (κs : _) (a : _) (r : _) (s : _) → run-book.Post κs a r s → r .verdict ≡ Accepted
 book-verdict κs a r s p = ap (λ (run : Run). run .verdict) (p .0)
 
-pub list-numbers : (κs : _) (a : _) (r : _) (s : _) → run-list.Post κs a r s → Each (OneOf paper) (take (r .answered) (now (s .1 .1 .1 .0)))
-list-numbers κs a r s p = answered-numbers _ (listRun (a .0) (a .1 .0) (placesIn (now (a .1 .1 .1 .0)) (now (a .1 .1 .1 .1 .0))) (now (a .1 .1 .0))) r _ _ _ _ p (list-paper (listVerdict (a .0) (a .1 .0)) (a .0) (a .1 .0) _ _)
+pub list-numbers : (κs : _) (a : _) (r : _) (s : _) → run-list.Post κs a r s → Each (OneOf runNumbers) (take (r .answered) (now (s .1 .1 .1 .0)))
+list-numbers κs a r s p = answered-numbers _ (listRun (a .0) (a .1 .0) (placesIn (now (a .1 .1 .1 .0)) (now (a .1 .1 .1 .1 .0))) (now (a .1 .1 .0))) r _ _ _ _ p (list-run-numbers (listVerdict (a .0) (a .1 .0)) (a .0) (a .1 .0) _ _)
 
-pub book-numbers : (κs : _) (a : _) (r : _) (s : _) → run-book.Post κs a r s → Each (OneOf paper) (take (r .answered) (now (s .1 .0)))
-book-numbers κs a r s p = answered-numbers _ (bookRun (placesIn (now (a .1 .0)) (now (a .1 .1 .0))) (now (a .0))) r _ _ _ _ p (paper-numbers _ _ 0 newBook)
+pub book-numbers : (κs : _) (a : _) (r : _) (s : _) → run-book.Post κs a r s → Each (OneOf runNumbers) (take (r .answered) (now (s .1 .0)))
+book-numbers κs a r s p = answered-numbers _ (bookRun (placesIn (now (a .1 .0)) (now (a .1 .1 .0))) (now (a .0))) r _ _ _ _ p (run-numbers _ _ 0 newBook)
 
 -- "and a refused entry changes neither the account nor one byte lent to us, except for the answer"
 pub write-refused : (κs : _) (a : _) (r : _) (s : _) → write.Post κs a r s → (writing.numberIn r ≡ 0 → ⊥) → now (s .1 .1 .0) ≡ now (a .1 .1 .0)

@@ -43,7 +43,7 @@ module _ (b : Book) (f : Figures) where
     where
       go : (v : Verdict) → numberIn (enteredAs v b (bookAfter b (DayEnd n m) f) .verdict) ≡ 0 → position (enteredAs v b (bookAfter b (DayEnd n m) f) .book .account) c ≡ netted (position (b .account) c)
       go Verdict·of.Accepted e = day-nets _ (b .account) c
-      go (Verdict·of.Refused why) e = absurd (omega (arith, refusal-number why .0, e))
+      go (Verdict·of.Refused why) e = absurd (omega (arith, refusal-number why, e))
 
   entered-refused : (entry : Entry) → (numberIn (entered b entry f .verdict) ≡ 0 → ⊥) → entered b entry f .book ≡ b
   unfolding entered
@@ -89,6 +89,6 @@ answer-told b reading sound = go (reading .answer) refl (answer-sound b reading 
           available = refl;
           booked = λ entry len e′. let never : _≡_ {A = ℕ} 0 1 = cc in absurd (omega arith);
           unread = λ why′ place′ e′. let same : why ≡ why′ = cc in (ap numberOf same, refl);
-          netting = λ n m len e′ zero c. absurd (omega (arith, refusal-number why .0));
+          netting = λ n m len e′ zero c. absurd (omega (arith, refusal-number why));
           refused = λ never. refl;
         }

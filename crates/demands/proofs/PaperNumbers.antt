@@ -1,5 +1,4 @@
--- Every refusal has one of the paper's numbers, and none has 0: by cases. What is chosen by tests is one of what there is to choose from.
-use mathlib.Core.Path.{refl}
+-- No refusal has the number 0: by cases. What is chosen by tests is one of what there is to choose from.
 use mathlib.Core.Bool.{Bool, true, false, cond}
 use mathlib.Core.List.{List, [], _∷_}
 use Prim.Native.Nat.{ℕ, _≤_}
@@ -8,34 +7,27 @@ use Rattle.terms.specs.Refusals.{numberOf}
 use Rattle.terms.specs.declared.refusal.Refusal.{Refusal}
 use Rattle.terms.specs.declared.refusal.Refusal.the-variants.{CutShort, UnknownKind, Misshapen, OutOfRange, OutOfPlace, StaleNumber, NoSuchOrder, OrdersFull, PositionTooSmall, RightsPassed, TotalPassed, DailyPassed, SpareTooFew, AvailablePassed, CeilingPassed, FillBarred, BufferTooShort, CashBelowZero}
 use Rattle.account.specs.InOrder.{first}
-use Rattle.account.specs.Verdicts.{numberIn}
-use Rattle.account.specs.declared.judged.Verdict.{Verdict}
-use Rattle.account.specs.declared.judged.Verdict.the-variants.{Accepted, Refused}
-use Rattle.demands.specs.Each.{Each, OneOf, paper}
+use Rattle.demands.specs.Each.{Each, OneOf}
 
-pub refusal-number : (why : Refusal) → (1 ≤ numberOf why) × OneOf paper (numberOf why)
-refusal-number CutShort = (omega arith, refl)
-refusal-number UnknownKind = (omega arith, refl)
-refusal-number Misshapen = (omega arith, refl)
-refusal-number OutOfRange = (omega arith, refl)
-refusal-number OutOfPlace = (omega arith, refl)
-refusal-number StaleNumber = (omega arith, refl)
-refusal-number NoSuchOrder = (omega arith, refl)
-refusal-number OrdersFull = (omega arith, refl)
-refusal-number PositionTooSmall = (omega arith, refl)
-refusal-number RightsPassed = (omega arith, refl)
-refusal-number TotalPassed = (omega arith, refl)
-refusal-number DailyPassed = (omega arith, refl)
-refusal-number SpareTooFew = (omega arith, refl)
-refusal-number AvailablePassed = (omega arith, refl)
-refusal-number CeilingPassed = (omega arith, refl)
-refusal-number FillBarred = (omega arith, refl)
-refusal-number BufferTooShort = (omega arith, refl)
-refusal-number CashBelowZero = (omega arith, refl)
-
-pub verdict-number : (v : Verdict) → OneOf paper (numberIn v)
-verdict-number Accepted = refl
-verdict-number (Refused why) = refusal-number why .1
+pub refusal-number : (why : Refusal) → 1 ≤ numberOf why
+refusal-number CutShort = omega arith
+refusal-number UnknownKind = omega arith
+refusal-number Misshapen = omega arith
+refusal-number OutOfRange = omega arith
+refusal-number OutOfPlace = omega arith
+refusal-number StaleNumber = omega arith
+refusal-number NoSuchOrder = omega arith
+refusal-number OrdersFull = omega arith
+refusal-number PositionTooSmall = omega arith
+refusal-number RightsPassed = omega arith
+refusal-number TotalPassed = omega arith
+refusal-number DailyPassed = omega arith
+refusal-number SpareTooFew = omega arith
+refusal-number AvailablePassed = omega arith
+refusal-number CeilingPassed = omega arith
+refusal-number FillBarred = omega arith
+refusal-number BufferTooShort = omega arith
+refusal-number CashBelowZero = omega arith
 
 module _ (numbers : List ℕ) where
   pub chosen : (test : Bool) (x y : ℕ) → OneOf numbers x → OneOf numbers y → OneOf numbers (cond test x y)

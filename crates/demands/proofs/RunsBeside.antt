@@ -28,7 +28,7 @@ use Rattle.demands.proofs.RunsTold.{read-goes-on, unread-ends}
 -- no refusal has the number 0
 accepted-number : (v : Verdict) → numberIn v ≡ 0 → v ≡ Accepted
 accepted-number Accepted e = refl
-accepted-number (Refused why) e = absurd (omega (arith, refusal-number why .0, e))
+accepted-number (Refused why) e = absurd (omega (arith, refusal-number why, e))
 
 -- the numbers of the answers are all 0
 abbrev pub AllAccepted : Ran → Type 0

@@ -20,6 +20,6 @@ EachPair P (x ∷ xs) (y ∷ ys) = P x y × EachPair P xs ys
 abbrev pub OneOf : List ℕ → ℕ → Type 0
 OneOf numbers n = member n numbers ≡ true
 
--- the paper's numbers: 0, and the refusals 1 to 18
-abbrev pub paper : List ℕ
-paper = 0 ∷ 1 ∷ 2 ∷ 3 ∷ 4 ∷ 5 ∷ 6 ∷ 7 ∷ 8 ∷ 9 ∷ 10 ∷ 11 ∷ 12 ∷ 13 ∷ 14 ∷ 15 ∷ 16 ∷ 17 ∷ 18 ∷ []
+-- what a record of a run may be answered with: 0, or one of the paper's refusals but 17, which is of writing
+abbrev pub runNumbers : List ℕ
+runNumbers = 0 ∷ 1 ∷ 2 ∷ 3 ∷ 4 ∷ 5 ∷ 6 ∷ 7 ∷ 8 ∷ 9 ∷ 10 ∷ 11 ∷ 12 ∷ 13 ∷ 14 ∷ 15 ∷ 16 ∷ 18 ∷ []
