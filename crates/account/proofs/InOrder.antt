@@ -132,7 +132,7 @@ unfolding cancelVerdict
 cancel-told f = next (one (ltb (f .place) 32) NoSuchOrder refl) accepted
 
 -- some figure is wrong where not every one is right
-some-wrong : (n : ℕ) (right wrong : ℕ → Bool) → ((i : ℕ) → wrong i ≡ not (right i)) → some n wrong ≡ not (every n right)
+pub some-wrong : (n : ℕ) (right wrong : ℕ → Bool) → ((i : ℕ) → wrong i ≡ not (right i)) → some n wrong ≡ not (every n right)
 some-wrong zero right wrong e = refl
 some-wrong (suc n) right wrong e = either (every n right) (right n) (some-wrong n right wrong e) (e n)
 

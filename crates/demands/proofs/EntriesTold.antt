@@ -1,8 +1,9 @@
--- A record of a book is refused in the paper's order and numbers: its place comes first, then each of its values beside its test, or the entry's own list.
-use mathlib.Core.Path.{_≡_, refl, sym, subst}
-use mathlib.Core.Bool.{not}
+-- A record of a book is refused in the paper's order and numbers: its place comes first, then each of its values beside its test, or the entry's own list; and tables that are given whole by the same tests, row by row.
+use mathlib.Core.Path.{_≡_, refl, sym, ap, subst, _∙_}
+use mathlib.Core.Bool.{Bool, true, false, not}
+use mathlib.Core.List.{List, [], _++_}
 use Prim.Native.Nat.{ℕ, _%_}
-use lib.Dec.{eqb, ltb}
+use lib.Dec.{eqb, leb, ltb}
 use Rattle.terms.specs.Ranges.{rangeOf, _∈_}
 use Rattle.terms.specs.declared.measure.Measure.the-variants.{Price, Settlement, Unit, Limit, OpeningCash}
 use Rattle.terms.specs.declared.refusal.Refusal.the-variants.{OutOfPlace, OutOfRange}
@@ -16,17 +17,22 @@ use Rattle.entries.specs.declared.entry.Underlying.{Underlying}
 use Rattle.entries.specs.declared.kind.Kind.{Kind}
 use Rattle.entries.specs.declared.kind.Kind.the-variants as Kind·of
 use Rattle.account.specs.Checks.{member}
+use Rattle.account.specs.DayEnd.{every}
 use Rattle.account.specs.InOrder.{entryTests, first}
+use Rattle.account.specs.Rows.{contract, underlying}
+use Rattle.account.specs.Sound.{contractAllowed, underlyingAllowed}
 use Rattle.account.specs.Steps.{refusalOf}
-use Rattle.account.specs.Verdicts.{numberIn}
+use Rattle.account.specs.Verdicts.{_else_then_, numberIn}
+use Rattle.account.specs.declared.judged.Verdict.the-variants.{Accepted}
 use Rattle.account.specs.declared.tables.Tables.{Tables}
-use Rattle.account.proofs.InOrder.{Told, accepted, both, entry-number, next, one}
+use Rattle.account.proofs.InOrder.{Adds, Told, accepted, both, entry-number, next, one, some-wrong}
+use Rattle.rows.specs.Given.{listVerdict}
 use Rattle.set_up.specs.Stages.{bySetUp, contractVerdict, inPlace, openingVerdict, recordVerdict, underlyingVerdict}
 use Rattle.set_up.specs.declared.stages.Book.{Book}
 use Rattle.set_up.specs.declared.stages.Stage.{Stage}
 use Rattle.set_up.specs.declared.stages.Stage.the-variants.{Underlyings, Contracts, Entries}
 use Rattle.demands.specs.Each.{Each, OneOf, runNumbers}
-use Rattle.demands.specs.InOrder.{contractTests, due, openingTests, recordTests, underlyingTests}
+use Rattle.demands.specs.InOrder.{contractTests, due, listTests, newContractTests, newUnderlyingTests, openingTests, recordTests, underlyingTests, wrong}
 use Rattle.demands.proofs.PaperNumbers.{first-among}
 
 each-stage : (P : Stage → Type 0) → P Underlyings × P Contracts × P Entries → (stage : Stage) → P stage
@@ -48,27 +54,37 @@ placed Kind·of.Underlying = each-stage _ (refl, refl, refl)
 placed Kind·of.Contract = each-stage _ (refl, refl, refl)
 placed Kind·of.Opening = each-stage _ (refl, refl, refl)
 
-underlying-told : (t : Tables) (row : Underlying) → Told (underlyingVerdict t row) (underlyingTests t row)
-underlying-told t row =
-    next
-    (both (both (both (both
-    (one (row .close ∈ rangeOf Price) OutOfRange refl)
-    (one (row .rights ∈ rangeOf Limit) OutOfRange refl))
-    (one (row .total ∈ rangeOf Limit) OutOfRange refl))
-    (one (row .daily ∈ rangeOf Limit) OutOfRange refl))
-    (one (ltb (t .m) 8) OutOfRange refl))
-    accepted
+module _ (row : Underlying) where
+  underlying-adds : {tests : List (Bool × ℕ)} → Adds (underlyingAllowed row) OutOfRange tests (underlyingTests row ++ tests)
+  underlying-adds =
+      both (both (both
+      (one (row .close ∈ rangeOf Price) OutOfRange refl)
+      (one (row .rights ∈ rangeOf Limit) OutOfRange refl))
+      (one (row .total ∈ rangeOf Limit) OutOfRange refl))
+      (one (row .daily ∈ rangeOf Limit) OutOfRange refl)
 
-contract-told : (t : Tables) (row : Contract) → Told (contractVerdict t row) (contractTests t row)
-contract-told t row =
-    next
-    (both (both (both (both
-    (one (ltb (row .underlying) (t .m)) OutOfRange refl)
-    (one (row .strike ∈ rangeOf Price) OutOfRange refl))
-    (both (one (row .unit ∈ rangeOf Unit) OutOfRange refl) (one (eqb (row .unit % 100) 0) OutOfRange refl)))
-    (one (row .settlement ∈ rangeOf Settlement) OutOfRange refl))
-    (one (ltb (t .n) 64) OutOfRange refl))
-    accepted
+  underlying-told : (t : Tables) → Told (underlyingVerdict t row) (newUnderlyingTests t row)
+  underlying-told t = next (both underlying-adds (one (ltb (t .m) 8) OutOfRange refl)) accepted
+
+module _ (row : Contract) where
+  contract-adds : {tests : List (Bool × ℕ)} (m : ℕ) → Adds (contractAllowed m row) OutOfRange tests (contractTests m row ++ tests)
+  contract-adds m =
+      both (both (both
+      (one (ltb (row .underlying) m) OutOfRange refl)
+      (one (row .strike ∈ rangeOf Price) OutOfRange refl))
+      (both (one (row .unit ∈ rangeOf Unit) OutOfRange refl) (one (eqb (row .unit % 100) 0) OutOfRange refl)))
+      (one (row .settlement ∈ rangeOf Settlement) OutOfRange refl)
+
+  contract-told : (t : Tables) → Told (contractVerdict t row) (newContractTests t row)
+  contract-told t = next (both (contract-adds (t .m)) (one (ltb (t .n) 64) OutOfRange refl)) accepted
+
+-- a row has something wrong where it is not allowed
+row-wrong : (allowed : Bool) (tests : List (Bool × ℕ)) → Adds allowed OutOfRange [] tests → wrong tests ≡ not allowed
+row-wrong allowed tests adds = ap (λ (number : ℕ). not (eqb number 0)) (sym (next adds accepted .number)) ∙ go allowed
+  where
+    go : (allowed : Bool) → not (eqb (numberIn (allowed else OutOfRange then Accepted)) 0) ≡ not allowed
+    go true = refl
+    go false = refl
 
 opening-told : (cash : ℕ) → Told (openingVerdict cash) (openingTests cash)
 opening-told cash = next (one (cash ∈ rangeOf OpeningCash) OutOfRange refl) accepted
@@ -79,7 +95,7 @@ module _ (b : Book) (f : Figures) where
 
   values-told : (entry : Entry)
       → Told (bySetUp (underlyingVerdict (b .tables)) (contractVerdict (b .tables)) openingVerdict (refusalOf (b .tables) (b .account) entry f) entry)
-      (bySetUp (underlyingTests (b .tables)) (contractTests (b .tables)) openingTests (entryTests (b .tables) (b .account) entry f) entry)
+      (bySetUp (newUnderlyingTests (b .tables)) (newContractTests (b .tables)) openingTests (entryTests (b .tables) (b .account) entry f) entry)
   values-told (Entry·of.Deposit amount) = entry-told (Entry·of.Deposit amount)
   values-told (Entry·of.Withdraw amount) = entry-told (Entry·of.Withdraw amount)
   values-told (Entry·of.Lock u units) = entry-told (Entry·of.Lock u units)
@@ -88,8 +104,8 @@ module _ (b : Book) (f : Figures) where
   values-told (Entry·of.Fill fill) = entry-told (Entry·of.Fill fill)
   values-told (Entry·of.Cancel number) = entry-told (Entry·of.Cancel number)
   values-told (Entry·of.DayEnd n m) = entry-told (Entry·of.DayEnd n m)
-  values-told (Entry·of.Underlying row) = underlying-told (b .tables) row
-  values-told (Entry·of.Contract row) = contract-told (b .tables) row
+  values-told (Entry·of.Underlying row) = underlying-told row (b .tables)
+  values-told (Entry·of.Contract row) = contract-told row (b .tables)
   values-told (Entry·of.Opening cash) = opening-told cash
 
   pub record-number : (entry : Entry) → numberIn (recordVerdict b entry f) ≡ first (recordTests b entry f)
@@ -112,3 +128,18 @@ module _ (b : Book) (f : Figures) where
 
   pub verdict-among : (entry : Entry) → OneOf runNumbers (numberIn (recordVerdict b entry f))
   verdict-among entry = subst (OneOf runNumbers) (sym (record-number entry)) (first-among runNumbers (recordTests b entry f) refl (tests-among entry))
+
+pub list-number : (t : Tables) (cash : ℕ) → numberIn (listVerdict t cash) ≡ first (listTests t cash)
+unfolding listVerdict
+list-number t cash =
+    let underlyings : ℕ → Bool = λ u. underlyingAllowed (underlying t u) in
+    let contracts : ℕ → Bool = λ c. contractAllowed (t .m) (contract t c) in
+    next (one (ltb 0 (t .n)) OutOfPlace refl)
+    (next
+    (both (both (both (both
+    (one (leb (t .m) 8) OutOfRange refl)
+    (one (leb (t .n) 64) OutOfRange refl))
+    (one (every (t .m) underlyings) OutOfRange (some-wrong (t .m) underlyings _ (λ u. row-wrong (underlyings u) _ (underlying-adds (underlying t u))))))
+    (one (every (t .n) contracts) OutOfRange (some-wrong (t .n) contracts _ (λ c. row-wrong (contracts c) _ (contract-adds (contract t c) (t .m))))))
+    (one (cash ∈ rangeOf OpeningCash) OutOfRange refl))
+    accepted) .number

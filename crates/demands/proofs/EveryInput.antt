@@ -1,6 +1,6 @@
 -- Every input gets an answer, by number: each public function is proved to meet its contract, which asks nothing, gives one of the paper's numbers, and where it refuses leaves what was lent as it was.
 use denote.Ref.{now}
-use mathlib.Core.Bool.{Bool, true, false, cond, _&&_}
+use mathlib.Core.Bool.{Bool, true, false, cond}
 use mathlib.Core.List.{List, [], _∷_}
 use mathlib.Core.Path.{_≡_, refl, sym, ap, subst, _∙_}
 use Prim.Native.Nat.{ℕ}
@@ -9,10 +9,8 @@ use lib.Dec.{ltb}
 use lib.IntN.{ℤ}
 use lib.ListN.{drop, length, take}
 use lib.Seq.{drop-at}
-use Rattle.terms.specs.Ranges.{rangeOf, _∈_}
-use Rattle.terms.specs.declared.measure.Measure.the-variants.{OpeningCash}
 use Rattle.terms.specs.declared.refusal.Refusal.{Refusal}
-use Rattle.terms.specs.declared.refusal.Refusal.the-variants.{BufferTooShort, Misshapen, OutOfPlace, OutOfRange}
+use Rattle.terms.specs.declared.refusal.Refusal.the-variants.{BufferTooShort, Misshapen}
 use Rattle.rules.specs.Charges as charges
 use Rattle.rules.specs.declared.Charge.{Charge}
 use Rattle.rules.proofs.margin.Met as margin-met
@@ -38,10 +36,9 @@ use Rattle.writing.specs.declared.Written.the-variants as Written·of
 use Rattle.writing.proofs.write.Met as write-met
 use Rattle.writing.proofs.write.Reads as write
 use Rattle.writing.proofs.write.Statement as write-statement
-use Rattle.account.specs.Verdicts.{_else_then_, numberIn}
+use Rattle.account.specs.Verdicts.{numberIn}
 use Rattle.account.specs.declared.judged.Verdict.the-variants.{Accepted, Refused}
-use Rattle.account.specs.declared.tables.Tables.{Tables}
-use Rattle.rows.specs.Given.{listVerdict, tablesAllowed}
+use Rattle.rows.specs.Given.{listVerdict}
 use Rattle.set_up.specs.Stages.{newBook}
 use Rattle.desk.specs.Runs.{bookRun, listRun, placesIn}
 use Rattle.desk.specs.declared.Run.{Run}
@@ -52,8 +49,9 @@ use Rattle.desk.proofs.run_list.Met as run-list-met
 use Rattle.desk.proofs.run_list.Reads as run-list
 use Rattle.desk.proofs.run_list.Statement as run-list-statement
 use Rattle.demands.specs.Each.{Each, OneOf, runNumbers}
-use Rattle.demands.specs.InOrder.{readingTests, writingTests}
+use Rattle.demands.specs.InOrder.{listTests, readingTests, writingTests}
 use Rattle.demands.specs.Records.{Typed}
+use Rattle.demands.proofs.EntriesTold.{list-number}
 use Rattle.demands.proofs.PaperNumbers.{chosen, first-among}
 use Rattle.demands.proofs.RecordsTold.{read-number, write-number, write-untouched}
 use Rattle.demands.proofs.RunsTold.{answered-numbers, beyond-answered, list-run-numbers, run-numbers, refused-list}
@@ -125,17 +123,10 @@ write-numbers κs a r s p =
     let said = ap writing.numberIn (p .0) ∙ write-number (a .0) (length (now (a .1 .1 .0))) in
     subst (OneOf (0 ∷ 3 ∷ 17 ∷ [])) (sym said) (first-among (0 ∷ 3 ∷ 17 ∷ []) (writingTests (a .0) (length (now (a .1 .1 .0)))) refl search)
 
-list-verdict-number : (t : Tables) (cash : ℕ) → OneOf (0 ∷ 4 ∷ 5 ∷ []) (numberIn (listVerdict t cash))
-unfolding listVerdict
-list-verdict-number t cash = go (ltb 0 (t .n)) (tablesAllowed t && (cash ∈ rangeOf OpeningCash))
-  where
-    go : (some allowed : Bool) → OneOf (0 ∷ 4 ∷ 5 ∷ []) (numberIn (some else OutOfPlace then allowed else OutOfRange then Accepted))
-    go false allowed = refl
-    go true false = refl
-    go true true = refl
-
 pub list-verdict-numbers : (κs : _) (a : _) (r : _) (s : _) → run-list.Post κs a r s → OneOf (0 ∷ 4 ∷ 5 ∷ []) (numberIn (r .verdict))
-list-verdict-numbers κs a r s p = subst (λ (run : Run). OneOf (0 ∷ 4 ∷ 5 ∷ []) (numberIn (run .verdict))) (sym (p .0)) (list-verdict-number (a .0) (a .1 .0))
+list-verdict-numbers κs a r s p =
+    let said = ap (λ (run : Run). numberIn (run .verdict)) (p .0) ∙ list-number (a .0) (a .1 .0) in
+    subst (OneOf (0 ∷ 4 ∷ 5 ∷ [])) (sym said) (first-among (0 ∷ 4 ∷ 5 ∷ []) (listTests (a .0) (a .1 .0)) refl search)
 
 pub book-verdict : (κs : _) (a : _) (r : _) (s : _) → run-book.Post κs a r s → r .verdict ≡ Accepted
 book-verdict κs a r s p = ap (λ (run : Run). run .verdict) (p .0)

@@ -10,7 +10,6 @@ use lib.IntN.{ℤ}
 use lib.ListN.{length, drop, take}
 use Rattle.terms.specs.Refusals.{numberOf}
 use Rattle.terms.specs.declared.refusal.Refusal.{Refusal}
-use Rattle.terms.specs.declared.refusal.Refusal.the-variants.{OutOfPlace}
 use Rattle.entries.specs.declared.entry.Entry.{Entry}
 use Rattle.entries.specs.declared.entry.Figures.{Figures}
 use Rattle.reading.specs.Reading as reading
@@ -21,7 +20,6 @@ use Rattle.account.specs.Verdicts.{numberIn}
 use Rattle.account.specs.declared.judged.Verdict.{Verdict}
 use Rattle.account.specs.declared.judged.Verdict.the-variants.{Accepted, Refused}
 use Rattle.account.specs.declared.tables.Tables.{Tables}
-use Rattle.rows.specs.Given.{listVerdict}
 use Rattle.set_up.specs.Stages.{bookAfter, entered, enteredAs, opened, recordVerdict}
 use Rattle.set_up.specs.declared.stages.Book.{Book}
 use Rattle.desk.specs.Runs.{Ran, _before_, answerBy, answerTo, availableIn, ended, listBy, runFrom}
@@ -88,11 +86,6 @@ module _ (places : ℕ) (s : List ℕ) (place : ℕ) (b : Book) (there : place <
       runFrom (suc places) s place b ≡ record { answers = (numberIn (after .verdict), availableIn (after .book)) ∷ rest .answers; place = rest .place; book = rest .book }
   unfolding runFrom answerTo
   read-goes-on entry len e = rw (lt-ltb place (length s) there, e) refl
-
--- 5 stands before 4: with no contract a list is 5, whatever else is wrong with it
-pub list-without-contract : (t : Tables) (cash : ℕ) → t .n ≡ 0 → listVerdict t cash ≡ Refused OutOfPlace
-unfolding listVerdict
-list-without-contract t cash none = rw none refl
 
 -- what both slices then hold, and what the caller is told
 module _ (v : Verdict) (run : Ran) (r : Run) (numbers₀ numbers : List ℕ) (sums₀ sums : List ℤ) (left : Leaves v run r numbers₀ numbers sums₀ sums) where

@@ -1,6 +1,6 @@
--- The refusals of reading, of writing and of a record of a book, each as one list in document 01's order and numbers ("Refusal numbers", its table and last paragraphs; "Numbers"): the first test that holds gives the number. Those of an open account's entries are the account's.
+-- The refusals of reading, of writing, of a record of a book and of what a list starts from, each as one list in document 01's order and numbers ("Refusal numbers", its table and last paragraphs; "Numbers"): the first test that holds gives the number. Those of an open account's entries are the account's.
 use mathlib.Core.Bool.{Bool, true, false, not, _&&_}
-use mathlib.Core.List.{List, [], _∷_}
+use mathlib.Core.List.{List, [], _∷_, _++_}
 use Prim.Native.Nat.{ℕ, _%_}
 use lib.Dec.{ltb, eqb}
 use lib.ListN.{length}
@@ -18,7 +18,8 @@ use Rattle.entries.specs.declared.kind.KindCoded.the-variants as Kind·answer
 use Rattle.reading.specs.Reading.{lengthAt, nAt, mAt, fieldsAt}
 use Rattle.writing.specs.Writing.{lengthFor, countsBarred}
 use Rattle.account.specs.Checks.{member}
-use Rattle.account.specs.InOrder.{entryTests, outside}
+use Rattle.account.specs.InOrder.{_above_, entryTests, first, outside, some}
+use Rattle.account.specs.Rows.{contract, underlying}
 use Rattle.account.specs.declared.tables.Tables.{Tables}
 use Rattle.set_up.specs.Stages.{bySetUp}
 use Rattle.set_up.specs.declared.stages.Book.{Book}
@@ -63,24 +64,22 @@ due Underlyings = 16 ∷ 17 ∷ []
 due Contracts = 17 ∷ 18 ∷ []
 due Entries = 1 ∷ 2 ∷ 3 ∷ 4 ∷ 5 ∷ 6 ∷ 7 ∷ 8 ∷ []
 
--- set-up, by the tables so far
-abbrev pub underlyingTests : Tables → Underlying → List (Bool × ℕ)
-underlyingTests t row =
+-- the values of an underlying's row, and of a contract's beside m underlyings
+abbrev pub underlyingTests : Underlying → List (Bool × ℕ)
+underlyingTests row =
     (outside 1 10_000_000 (row .close), 4)  -- "prior close .. 1 to 10,000,000"
     ∷ (outside 0 10_000 (row .rights), 4)  -- "limits 0 to 10,000"
     ∷ (outside 0 10_000 (row .total), 4)  -- "limits 0 to 10,000"
     ∷ (outside 0 10_000 (row .daily), 4)  -- "limits 0 to 10,000"
-    ∷ (not (ltb (t .m) 8), 4)  -- "a 9th underlying"
     ∷ []
 
-abbrev pub contractTests : Tables → Contract → List (Bool × ℕ)
-contractTests t row =
-    (not (ltb (row .underlying) (t .m)), 4)  -- "number not in the tables"
+abbrev pub contractTests : ℕ → Contract → List (Bool × ℕ)
+contractTests m row =
+    (not (ltb (row .underlying) m), 4)  -- "number not in the tables"
     ∷ (outside 1 10_000_000 (row .strike), 4)  -- "strike .. 1 to 10,000,000"
     ∷ (outside 100 100_000 (row .unit), 4)  -- "contract unit 100 to 100,000"
     ∷ (not (eqb (row .unit % 100) 0), 4)  -- "a multiple of 100"
     ∷ (outside 0 10_000_000 (row .settlement), 4)  -- "settlement price 0 to 10,000,000 (zero is a price)"
-    ∷ (not (ltb (t .n) 64), 4)  -- "65th contract"
     ∷ []
 
 abbrev pub openingTests : ℕ → List (Bool × ℕ)
@@ -88,8 +87,29 @@ openingTests cash =
     (outside 0 1_000_000_000_000_000 cash, 4)  -- "opening cash 0 to 10^15"
     ∷ []
 
+-- set-up, by the tables so far
+abbrev pub newUnderlyingTests : Tables → Underlying → List (Bool × ℕ)
+newUnderlyingTests t row = underlyingTests row ++ (not (ltb (t .m) 8), 4) ∷ []  -- "a 9th underlying"
+
+abbrev pub newContractTests : Tables → Contract → List (Bool × ℕ)
+newContractTests t row = contractTests (t .m) row ++ (not (ltb (t .n) 64), 4) ∷ []  -- "65th contract"
+
 -- a record of a book: "5 first, then 4", and an entry's own
 abbrev pub recordTests : Book → Entry → Figures → List (Bool × ℕ)
 recordTests b entry f =
     (not (member (codeOf (kindOf entry)) (due (b .stage))), 5)  -- "record out of its place, or an opening with no contract yet"
-    ∷ bySetUp (underlyingTests (b .tables)) (contractTests (b .tables)) openingTests (entryTests (b .tables) (b .account) entry f) entry
+    ∷ bySetUp (newUnderlyingTests (b .tables)) (newContractTests (b .tables)) openingTests (entryTests (b .tables) (b .account) entry f) entry
+
+-- is something wrong with a row: does one of its tests hold?
+abbrev pub wrong : List (Bool × ℕ) → Bool
+wrong tests = not (eqb (first tests) 0)
+
+-- tables and cash that are given whole, as a list's are
+abbrev pub listTests : Tables → ℕ → List (Bool × ℕ)
+listTests t cash =
+    (not (ltb 0 (t .n)), 5)  -- "an opening with no contract yet"
+    ∷ (t .m above 8, 4)  -- "up to 8 underlyings"
+    ∷ (t .n above 64, 4)  -- "64 contracts"
+    ∷ (some (t .m) (λ u. wrong (underlyingTests (underlying t u))), 4)
+    ∷ (some (t .n) (λ c. wrong (contractTests (t .m) (contract t c))), 4)
+    ∷ openingTests cash
