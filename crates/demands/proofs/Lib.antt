@@ -34,4 +34,5 @@ pub mod Told
 pub mod TransfersToo
 pub mod WhatFollows
 pub mod WorkedCases
+pub mod WrittenAlike
 pub mod WrittenRead

@@ -1,29 +1,27 @@
 -- Two runs that read alike go side by side: turn by turn the second accepts what the first accepts, so both books stay abreast after each answer and both runs end together.
-use mathlib.Core.Path.{_≡_, refl, ap, subst, _∙_}
-use mathlib.Core.List.{List, _∷_, map}
+use mathlib.Core.Path.{_≡_, refl, ap, subst}
+use mathlib.Core.List.{List, map}
 use Prim.Native.Nat.{ℕ, zero, suc, _+_, _≤_, _<_}
 use native.Mathlib.Decide.{decLt}
 use native.Mathlib.Omega.{arith}
 use lib.ListN.{length}
 use Rattle.entries.specs.declared.entry.Entry.{Entry}
-use Rattle.entries.specs.declared.entry.Figures.{Figures}
 use Rattle.reading.specs.Reading.{readAt}
 use Rattle.reading.specs.declared.Answer.{Answer}
 use Rattle.reading.specs.declared.Answer.the-variants as Answer·of
-use Rattle.reading.specs.declared.Reading.{Reading}
 use Rattle.account.specs.Verdicts.{numberIn}
 use Rattle.account.specs.declared.judged.Verdict.{Verdict}
 use Rattle.account.specs.declared.judged.Verdict.the-variants.{Accepted, Refused}
 use Rattle.set_up.specs.Stages.{entered}
 use Rattle.set_up.specs.declared.stages.Book.{Book}
 use Rattle.set_up.specs.declared.stages.Entered.{Entered}
-use Rattle.desk.specs.Runs.{Ran, availableIn, ended, runFrom}
+use Rattle.desk.specs.Runs.{Ran, ended, runFrom}
 use Rattle.desk.proofs.Turns.{no-byte}
 use Rattle.demands.specs.Each.{Each}
 use Rattle.demands.specs.GiftRuns.{Alike}
 use Rattle.demands.proofs.BooksBeside.{Abreast, Room, entered-onward}
 use Rattle.demands.proofs.PaperNumbers.{refusal-number}
-use Rattle.demands.proofs.RunsTold.{read-goes-on, unread-ends}
+use Rattle.demands.proofs.RunsTold.{led, read-goes-on, read-so, unread-ends}
 
 -- no refusal has the number 0
 accepted-number : (v : Verdict) → numberIn v ≡ 0 → v ≡ Accepted
@@ -55,16 +53,6 @@ ReadsOn X s s' Stands =
     (place : ℕ) (b : Book) (entry : Entry) (len : ℕ) → let f = readAt s place .figures in
     Stands place b → place < length s → readAt s place .answer ≡ Answer·of.Found entry len → entered b entry f .verdict ≡ Accepted
     → (entry' : Entry) × Alike X entry entry' × (readAt s' place ≡ record { answer = Answer·of.Found entry' len; figures = f }) × Stands (place + len) (entered b entry f .book)
-
--- the answer to an entered record, before those of the rest
-abbrev led : Entered → Ran → Ran
-led after rest = record { answers = (numberIn (after .verdict), availableIn (after .book)) ∷ rest .answers; place = rest .place; book = rest .book }
-
-read-so : (places : ℕ) (s : List ℕ) (place : ℕ) (b : Book) → place < length s → (entry : Entry) (len : ℕ) (f : Figures) → readAt s place ≡ record { answer = Answer·of.Found entry len; figures = f }
-    → runFrom (suc places) s place b ≡ led (entered b entry f) (runFrom places s (place + len) (entered b entry f .book))
-read-so places s place b there entry len f e =
-    read-goes-on places s place b there entry len (ap (λ (r : Reading). r .answer) e)
-    ∙ ap (λ (r : Reading). led (entered b entry (r .figures)) (runFrom places s (place + len) (entered b entry (r .figures) .book))) e
 
 -- one answer more, the second's 0
 led-on : {X : ℕ} {rest rest' : Ran} (after after' : Entered) → after' .verdict ≡ Accepted → InStep X rest rest' → InStep X (led after rest) (led after' rest')

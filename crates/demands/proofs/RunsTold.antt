@@ -16,12 +16,14 @@ use Rattle.reading.specs.Reading as reading
 use Rattle.reading.specs.Reading.{kindAt, readAt}
 use Rattle.reading.specs.declared.Answer.{Answer}
 use Rattle.reading.specs.declared.Answer.the-variants as Reading·of
+use Rattle.reading.specs.declared.Reading.{Reading}
 use Rattle.account.specs.Verdicts.{numberIn}
 use Rattle.account.specs.declared.judged.Verdict.{Verdict}
 use Rattle.account.specs.declared.judged.Verdict.the-variants.{Accepted, Refused}
 use Rattle.account.specs.declared.tables.Tables.{Tables}
 use Rattle.set_up.specs.Stages.{bookAfter, entered, enteredAs, opened, recordVerdict}
 use Rattle.set_up.specs.declared.stages.Book.{Book}
+use Rattle.set_up.specs.declared.stages.Entered.{Entered}
 use Rattle.desk.specs.Runs.{Ran, _before_, answerBy, answerTo, availableIn, ended, listBy, runFrom}
 use Rattle.desk.specs.declared.Run.{Run}
 use Rattle.desk.proofs.Started.{Leaves}
@@ -71,6 +73,10 @@ pub list-run-numbers : (v : Verdict) (t : Tables) (cash n : ℕ) (s : List ℕ) 
 list-run-numbers Accepted t cash n s = run-numbers n s 0 (opened t cash)
 list-run-numbers (Refused why) t cash n s = tt
 
+-- the answer to an entered record, before those of the rest
+abbrev pub led : Entered → Ran → Ran
+led after rest = record { answers = (numberIn (after .verdict), availableIn (after .book)) ∷ rest .answers; place = rest .place; book = rest .book }
+
 -- "refusals 1 to 3 end the reading of a book": a record that can't be read is answered by such a number, and nothing follows
 module _ (places : ℕ) (s : List ℕ) (place : ℕ) (b : Book) (there : place < length s) where
   pub unread-ends : (why : Refusal) (p : ℕ) → readAt s place .answer ≡ Reading·of.Refused why p
@@ -81,11 +87,16 @@ module _ (places : ℕ) (s : List ℕ) (place : ℕ) (b : Book) (there : place <
 
   -- "all others leave it able to go on", whatever the verdict on the entry is
   pub read-goes-on : (entry : Entry) (len : ℕ) → readAt s place .answer ≡ Reading·of.Found entry len
-      → let after = entered b entry (readAt s place .figures) in
-      let rest = runFrom places s (place + len) (after .book) in
-      runFrom (suc places) s place b ≡ record { answers = (numberIn (after .verdict), availableIn (after .book)) ∷ rest .answers; place = rest .place; book = rest .book }
+      → let after = entered b entry (readAt s place .figures) in runFrom (suc places) s place b ≡ led after (runFrom places s (place + len) (after .book))
   unfolding runFrom answerTo
   read-goes-on entry len e = rw (lt-ltb place (length s) there, e) refl
+
+  -- the same, where the figures that were read are known too
+  pub read-so : (entry : Entry) (len : ℕ) (f : Figures) → readAt s place ≡ record { answer = Reading·of.Found entry len; figures = f }
+      → runFrom (suc places) s place b ≡ led (entered b entry f) (runFrom places s (place + len) (entered b entry f .book))
+  read-so entry len f e =
+      read-goes-on entry len (ap (λ (r : Reading). r .answer) e)
+      ∙ ap (λ (r : Reading). led (entered b entry (r .figures)) (runFrom places s (place + len) (entered b entry (r .figures) .book))) e
 
 -- what both slices then hold, and what the caller is told
 module _ (v : Verdict) (run : Ran) (r : Run) (numbers₀ numbers : List ℕ) (sums₀ sums : List ℤ) (left : Leaves v run r numbers₀ numbers sums₀ sums) where

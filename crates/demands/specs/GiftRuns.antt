@@ -9,6 +9,7 @@ use Rattle.entries.specs.Entries.{kindOf}
 use Rattle.entries.specs.Table.{codeOf}
 use Rattle.entries.specs.declared.entry.Entry.{Entry}
 use Rattle.entries.specs.declared.entry.Entry.the-variants as Entry·of
+use Rattle.entries.specs.declared.entry.Figures.{Figures}
 use Rattle.entries.specs.declared.entry.Underlying.{Underlying}
 use Rattle.reading.specs.Reading.{readAt}
 use Rattle.reading.specs.declared.Answer.the-variants as Answer·of
@@ -35,6 +36,10 @@ pub data Alike (X : ℕ) : Entry → Entry → Type 0 where
   higher : (p q : Underlying) → Roomier p q → underlyingAllowed q ≡ true → Alike X (Entry·of.Underlying p) (Entry·of.Underlying q)
   more : (cash : ℕ) → Alike X (Entry·of.Opening cash) (Entry·of.Opening (cash + X))
   same : (entry : Entry) → codeOf (kindOf entry) < 18 → Alike X entry entry
+
+-- two records of alike entries with the same figures
+abbrev pub AlikeRecord : ℕ → Entry × Figures → Entry × Figures → Type 0
+AlikeRecord X e e' = Alike X (e .0) (e' .0) × (e' .1 ≡ e .1)
 
 -- what the first reads as an entry, the second reads as one alike, of the same length and with the same figures
 abbrev pub ReadAlike : ℕ → Reading → Reading → Type 0
