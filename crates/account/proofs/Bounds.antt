@@ -97,7 +97,7 @@ module _ {t : Tables} (tables : SoundTables t) where
     figures-allowed = simp (row-of .settlement, row-of .strike, row-of .unit, limits-of _ (row-of .underlying) .priced)
 
     -- settlement, close, strike and unit, each at most its range's end
-    pub figures-of : Figures (contract t c .settlement) (underlying t (contract t c .underlying) .close) (contract t c .strike) (contract t c .unit)
+    figures-of : Figures (contract t c .settlement) (underlying t (contract t c .underlying) .close) (contract t c .strike) (contract t c .unit)
     figures-of = figures _ _ _ _ figures-allowed
 
     pub one-margin : marginOne t c < 20_000_000_000
@@ -145,7 +145,7 @@ when-most x true = omega arith
 when-most x false = omega arith
 
 module _ {t : Tables} {a : Account} (sound : Sound t a) where
-  pub free-or-resting : (i : ℕ) → i < 32 → (order a i ≡ free) ⊎ SoundOrder t (a .last) (order a i)
+  free-or-resting : (i : ℕ) → i < 32 → (order a i ≡ free) ⊎ SoundOrder t (a .last) (order a i)
   free-or-resting i h = go (order a i .number) refl
     where
       go : (n : ℕ) → order a i .number ≡ n → (order a i ≡ free) ⊎ SoundOrder t (a .last) (order a i)

@@ -66,11 +66,13 @@ one true why e = record { before = λ rest told. record { number = rw e (told .n
 one false why e = record { before = λ rest told. record { number = rw e refl } }
 
 -- two checks that give one refusal are asked one after the other
-together : {tests : List (Bool × ℕ)} (passed also : Bool) (why : Refusal) (rest : Verdict) → Told (passed else why then also else why then rest) tests → Told (passed && also else why then rest) tests
+together : {tests : List (Bool × ℕ)} (passed also : Bool) (why : Refusal) (rest : Verdict) → Told (passed else why then also else why then rest) tests
+    → Told (passed && also else why then rest) tests
 together true also why rest told = told
 together false also why rest told = told
 
-pub both : {passed also : Bool} {why : Refusal} {tests longer longest : List (Bool × ℕ)} → Adds passed why longer longest → Adds also why tests longer → Adds (passed && also) why tests longest
+pub both : {passed also : Bool} {why : Refusal} {tests longer longest : List (Bool × ℕ)} → Adds passed why longer longest → Adds also why tests longer
+    → Adds (passed && also) why tests longest
 both {passed} {also} {why} adds more = record { before = λ rest told. together passed also why rest (adds .before _ (more .before rest told)) }
 
 -- a check that two make is failed where either is, and one that either of two makes where neither is passed
@@ -112,7 +114,8 @@ module _ (t : Tables) (u units : ℕ) where
   unlock-told spare = next units-told (next (one (leb units (spare .0)) SpareTooFew refl) accepted)
 
 -- a buy is held to its price from above, a sell from below
-price-told : {tests : List (Bool × ℕ)} (buys : Bool) (limit price : ℕ) → Adds (priceAllowed buys limit price) FillBarred tests ((buys && price above limit, 16) ∷ (not buys && limit above price, 16) ∷ tests)
+price-told : {tests : List (Bool × ℕ)} (buys : Bool) (limit price : ℕ)
+    → Adds (priceAllowed buys limit price) FillBarred tests ((buys && price above limit, 16) ∷ (not buys && limit above price, 16) ∷ tests)
 price-told true limit price = record { before = λ rest told. record { number = next (one (leb price limit) FillBarred refl) told .number } }
 price-told false limit price = record { before = λ rest told. record { number = next (one (leb limit price) FillBarred refl) told .number } }
 
@@ -194,7 +197,8 @@ module _ (t : Tables) (a : Account) (o : Order) where
   unfolding orderVerdict factsOf
   values-first = go (meets (o .kind) Values) (listed Values (o .kind) ∙ all-six (o .kind)) (orderAllowed t o)
     where
-      go : (met : Bool) → met ≡ true → (allowed : Bool) → (not met || cond allowed (factsIn t a o) noFacts .allowed else OutOfRange then walked (drop 1 columns) (cond allowed (factsIn t a o) noFacts) o) ≡ (allowed else OutOfRange then walked (drop 1 columns) (factsIn t a o) o)
+      go : (met : Bool) → met ≡ true → (allowed : Bool)
+          → (not met || cond allowed (factsIn t a o) noFacts .allowed else OutOfRange then walked (drop 1 columns) (cond allowed (factsIn t a o) noFacts) o) ≡ (allowed else OutOfRange then walked (drop 1 columns) (factsIn t a o) o)
       go true e true = refl
       go true e false = refl
       go false e allowed = absurd (false≢true e)

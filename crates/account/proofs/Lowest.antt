@@ -8,7 +8,7 @@ use native.Mathlib.Numerals.{add-one}
 use native.Mathlib.Omega.{arith}
 use Rattle.account.specs.Sums.{lowest}
 
-pub lowest-most : (n : ℕ) (test : ℕ → Bool) → lowest n test ≤ n
+lowest-most : (n : ℕ) (test : ℕ → Bool) → lowest n test ≤ n
 unfolding lowest
 lowest-most zero test = omega arith
 lowest-most (suc n) test =
@@ -16,7 +16,7 @@ lowest-most (suc n) test =
     elim (test (lowest n test)) as (λ b. cond b (lowest n test) (suc n) ≤ suc n) [ true ↦ omega (arith, before) | false ↦ omega arith ]
 
 -- a number found below a smaller bound is kept
-pub lowest-kept : (n m : ℕ) (test : ℕ → Bool) → n ≤ m → test (lowest n test) ≡ true → lowest m test ≡ lowest n test
+lowest-kept : (n m : ℕ) (test : ℕ → Bool) → n ≤ m → test (lowest n test) ≡ true → lowest m test ≡ lowest n test
 unfolding lowest
 lowest-kept n zero test h found =
     let none : 0 ≡ n = omega (arith, h) in
@@ -39,7 +39,7 @@ lowest-passes (suc n) test h =
     goal (test (lowest n test)) refl h
 
 -- where it does not, nothing was found
-pub lowest-none : (n : ℕ) (test : ℕ → Bool) → test (lowest n test) ≡ false → lowest n test ≡ n
+lowest-none : (n : ℕ) (test : ℕ → Bool) → test (lowest n test) ≡ false → lowest n test ≡ n
 lowest-none n test none =
     elim (eq-or-lt-of-le (lowest-most n test)) [ inl e ↦ e | inr l ↦ absurd (true≢false (sym (lowest-passes n test l) ∙ none)) ]
 

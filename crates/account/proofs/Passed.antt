@@ -43,7 +43,7 @@ module _ (f : Facts) (o : Order) where
       let one = went-on (not (meets (o .kind) check) || passes check f o) (refusalFor check) (walked rest f o) e in
       walked-passes rest (one .1) i (le-of-suc-le-suc h) met
 
-  pub accepted-passes : orderVerdict f o ≡ Accepted → (check : Check) → meets (o .kind) check ≡ true → passes check f o ≡ true
+  accepted-passes : orderVerdict f o ≡ Accepted → (check : Check) → meets (o .kind) check ≡ true → passes check f o ≡ true
   unfolding orderVerdict
   accepted-passes e Values = walked-passes columns e 0 (omega arith)
   accepted-passes e Number = walked-passes columns e 1 (omega arith)

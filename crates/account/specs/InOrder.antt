@@ -28,24 +28,24 @@ use Rattle.account.specs.declared.judged.Named.{Named}
 use Rattle.account.specs.declared.tables.Tables.{Tables}
 
 infix 50 _above_
--- the number of the first test that holds, 0 where none does
+-- the number of the first test that holds, 0 where none does (house)
 abbrev pub first : List (Bool × ℕ) → ℕ
 first [] = 0
 first (t ∷ ts) = cond (t .0) (t .1) (first ts)
 
--- is a number more than the most, and is it not in a range, of which both ends are part?
+-- is a number more than the most, and is it not in a range, of which both ends are part? (house)
 abbrev pub _above_ : ℕ → ℕ → Bool
 x above most = not (leb x most)
 
 abbrev pub outside : ℕ → ℕ → ℕ → Bool
 outside least most x = not (leb least x && leb x most)
 
--- does some number below n pass?
+-- does some number below n pass? (house)
 abbrev pub some : ℕ → (ℕ → Bool) → Bool
 some zero test = false
 some (suc n) test = some n test || test n
 
--- is an order of one of the kinds?
+-- is an order of one of the kinds? (house)
 abbrev pub among : Order → List ℕ → Bool
 among o kinds = member (kindCode (o .kind)) kinds
 
@@ -125,7 +125,7 @@ setUpTests =
     (true, 5)  -- "record out of its place"
     ∷ []
 
--- the list of an entry
+-- the list of an entry (house)
 abbrev pub entryTests : Tables → Account → Entry → Figures → List (Bool × ℕ)
 entryTests t a (Entry·of.Deposit amount) f = depositTests (a .sheet) amount
 entryTests t a (Entry·of.Withdraw amount) f = withdrawTests (a .sheet) amount

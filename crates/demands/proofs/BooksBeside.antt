@@ -109,7 +109,8 @@ same-kind (more cash) = refl
 same-kind (same entry kind) = refl
 
 module _ (X : ℕ) (b b' : Book) (f : Figures) (so : Abreast X b b') where
-  underlying-onward : (p q : Underlyings·of.Underlying) → Roomier p q → inPlace (b .stage) 16 ≡ true → underlyingVerdict (b .tables) p ≡ Accepted → underlyingAllowed q ≡ true → Onward X b b' f (Underlying p) (Underlying q)
+  underlying-onward : (p q : Underlyings·of.Underlying) → Roomier p q → inPlace (b .stage) 16 ≡ true → underlyingVerdict (b .tables) p ≡ Accepted
+      → underlyingAllowed q ≡ true → Onward X b b' f (Underlying p) (Underlying q)
   unfolding bookAfter
   underlying-onward p q roomier placed accepted allowed =
       let t = b .tables in
@@ -161,7 +162,8 @@ module _ (X : ℕ) (b b' : Book) (f : Figures) (so : Abreast X b b') where
     },
   )
 
-  entry-onward : (entry : Entry) → codeOf (kindOf entry) ≤ 8 → inPlace (b .stage) (codeOf (kindOf entry)) ≡ true → refusalOf (b .tables) (b .account) entry f ≡ Accepted → RoomFor X (accountAfter (b .tables) (b .account) entry f)
+  entry-onward : (entry : Entry) → codeOf (kindOf entry) ≤ 8 → inPlace (b .stage) (codeOf (kindOf entry)) ≡ true → refusalOf (b .tables) (b .account) entry f ≡ Accepted
+      → RoomFor X (accountAfter (b .tables) (b .account) entry f)
       → (refusalOf (b' .tables) (b' .account) entry f ≡ Accepted) × Abreast X (withEntry b entry f) (withEntry b' entry f)
   entry-onward entry few placed accepted room =
       let too = entry-too X (b .tables) (b' .tables) (b .account) entry f (so .tables) accepted room in
@@ -175,7 +177,8 @@ module _ (X : ℕ) (b b' : Book) (f : Figures) (so : Abreast X b b') where
         },
       )
 
-  same-onward : (entry : Entry) → codeOf (kindOf entry) < 18 → inPlace (b .stage) (codeOf (kindOf entry)) ≡ true → verdict b f entry ≡ Accepted → Room X (bookAfter b entry f) → Onward X b b' f entry entry
+  same-onward : (entry : Entry) → codeOf (kindOf entry) < 18 → inPlace (b .stage) (codeOf (kindOf entry)) ≡ true → verdict b f entry ≡ Accepted
+      → Room X (bookAfter b entry f) → Onward X b b' f entry entry
   unfolding bookAfter
   same-onward (Deposit amount) kind placed e room = entry-onward (Deposit amount) (omega arith) placed e (room refl)
   same-onward (Withdraw amount) kind placed e room = entry-onward (Withdraw amount) (omega arith) placed e (room refl)
@@ -190,7 +193,8 @@ module _ (X : ℕ) (b b' : Book) (f : Figures) (so : Abreast X b b') where
   same-onward (Contract row) kind placed e room = contract-onward row placed e
   same-onward (Opening cash) kind placed e room = absurd (omega arith)
 
-  alike-onward : {entry entry' : Entry} → Alike X entry entry' → inPlace (b .stage) (codeOf (kindOf entry)) ≡ true → verdict b f entry ≡ Accepted → Room X (bookAfter b entry f) → Onward X b b' f entry entry'
+  alike-onward : {entry entry' : Entry} → Alike X entry entry' → inPlace (b .stage) (codeOf (kindOf entry)) ≡ true → verdict b f entry ≡ Accepted
+      → Room X (bookAfter b entry f) → Onward X b b' f entry entry'
   unfolding bookAfter
   alike-onward (higher p q roomier allowed) placed e room = underlying-onward p q roomier placed e allowed
   alike-onward (more cash) placed e room = opening-onward cash (omega (arith, room refl))

@@ -68,7 +68,8 @@ pub book-returned : (κs : _) (a : _) (r : _) (s : _) → run-book.Post κs a r 
 book-returned κs a r s p = returned Accepted r (λ k. bookRun k (now (a .0))) _ (as-answered _ (now (a .0)) 0 newBook) (p .0)
 
 -- of tables that have as many rows as their type says: every list's do
-pub list-after-each : (κs : _) (a : _) (r : _) (s : _) → run-list.Post κs a r s → r .verdict ≡ Accepted → length (a .0 .underlyings) ≡ 8 → length (a .0 .contracts) ≡ 64 → (k : ℕ) → k < r .answered
+pub list-after-each : (κs : _) (a : _) (r : _) (s : _) → run-list.Post κs a r s → r .verdict ≡ Accepted → length (a .0 .underlyings) ≡ 8 → length (a .0 .contracts) ≡ 64
+    → (k : ℕ) → k < r .answered
     → let (tables, cash, bytes) : Tables × ℕ × List ℕ = (a .0, a .1 .0, now (a .1 .1 .0)) in
     let (numbers, sums) : List ℕ × List ℤ = (now (s .1 .1 .1 .0), now (s .1 .1 .1 .1 .0)) in
     let runs : ℕ → Ran = λ k. listRun tables cash k bytes in
@@ -77,7 +78,8 @@ list-after-each κs a r s p accepted underlyings contracts =
     let given = sym (ap (λ (run : Run). run .verdict) (p .0)) ∙ accepted in
     list-each SoundBook AfterEntry answer-sound answer-told _ _ r _ _ _ _ _ _ _ p given (list-sound _ _ underlyings contracts given)
 
-pub list-returned : (κs : _) (a : _) (r : _) (s : _) → run-list.Post κs a r s → let after = listRun (a .0) (a .1 .0) (r .answered) (now (a .1 .1 .0)) in (r .book ≡ after .book) × (r .place ≡ after .place)
+pub list-returned : (κs : _) (a : _) (r : _) (s : _) → run-list.Post κs a r s
+    → let after = listRun (a .0) (a .1 .0) (r .answered) (now (a .1 .1 .0)) in (r .book ≡ after .book) × (r .place ≡ after .place)
 list-returned κs a r s p =
     returned (listVerdict (a .0) (a .1 .0)) r (λ k. listRun (a .0) (a .1 .0) k (now (a .1 .1 .0))) _ (list-as-answered (listVerdict (a .0) (a .1 .0)) (a .0) (a .1 .0) _ (now (a .1 .1 .0))) (p .0)
 

@@ -45,7 +45,8 @@ more-available {X} {b} {b'} so stands =
     ∙ so .account stands .available
     ∙ sym (ap (λ (stage : Stage). availableAt stage (b .account .sheet) +ℤ pos X) stands)
 
-held-too : {X n n' : ℕ} {runs runs' : ℕ → Ran} {r r' : Run} {numbers numbers' : List ℕ} {sums sums' : List ℤ} → Held runs n r numbers sums → Held runs' n' r' numbers' sums' → n' ≡ n → r' .verdict ≡ Accepted
+held-too : {X n n' : ℕ} {runs runs' : ℕ → Ran} {r r' : Run} {numbers numbers' : List ℕ} {sums sums' : List ℤ} → Held runs n r numbers sums
+    → Held runs' n' r' numbers' sums' → n' ≡ n → r' .verdict ≡ Accepted
     → ((k : ℕ) → k ≤ n → InStep X (runs k) (runs' k)) → SecondToo X runs runs' r r' numbers' sums sums'
 held-too {X} {n} {n'} {runs} {runs'} {r} {r'} {numbers} {numbers'} {sums} {sums'} first other places accepted steps =
     let second = subst (λ (n : ℕ). Held runs' n r' numbers' sums') places other in

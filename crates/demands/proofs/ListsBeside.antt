@@ -42,7 +42,8 @@ use Rattle.demands.proofs.Relisted.{relisted, roomier-relisted}
 use Rattle.demands.proofs.RunsBeside.{AllAccepted, InStep, ReadsOn, both-so, together}
 
 -- the first's tables with other rows of underlyings, each of them allowed
-relisted-too : (t : Tables) (rows : List Underlyings·of.Underlying) (cash cash' : ℕ) → ((u : ℕ) → u < t .m → underlyingAllowed (underlying (relisted t rows) u) ≡ true) → cash' ≤ 1_000_000_000_000_000
+relisted-too : (t : Tables) (rows : List Underlyings·of.Underlying) (cash cash' : ℕ) → ((u : ℕ) → u < t .m → underlyingAllowed (underlying (relisted t rows) u) ≡ true)
+    → cash' ≤ 1_000_000_000_000_000
     → listVerdict t cash ≡ Accepted → listVerdict (relisted t rows) cash' ≡ Accepted
 unfolding listVerdict
 relisted-too t rows cash cash' allowed room accepted =

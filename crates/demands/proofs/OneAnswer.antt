@@ -41,7 +41,8 @@ module _ (b : Book) (f : Figures) where
   unfolding entered bookAfter accountAfter
   entered-nets n m accepted c = go (recordVerdict b (DayEnd n m) f) accepted
     where
-      go : (v : Verdict) → numberIn (enteredAs v b (bookAfter b (DayEnd n m) f) .verdict) ≡ 0 → position (enteredAs v b (bookAfter b (DayEnd n m) f) .book .account) c ≡ netted (position (b .account) c)
+      go : (v : Verdict) → numberIn (enteredAs v b (bookAfter b (DayEnd n m) f) .verdict) ≡ 0
+          → position (enteredAs v b (bookAfter b (DayEnd n m) f) .book .account) c ≡ netted (position (b .account) c)
       go Verdict·of.Accepted e = day-nets _ (b .account) c
       go (Verdict·of.Refused why) e = absurd (omega (arith, refusal-number why, e))
 

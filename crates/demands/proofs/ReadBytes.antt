@@ -27,7 +27,7 @@ bytes-value (b ∷ s) h =
     let rest : (b + 256 * value s) / 256 ≡ value s = omega arith in
     rw (low, rest, bytes-value s (h .1))
 
-pub value-fits : (s : List ℕ) → AreBytes s → value s < 256 ^ length s
+value-fits : (s : List ℕ) → AreBytes s → value s < 256 ^ length s
 unfolding value
 value-fits [] h = omega arith
 value-fits (b ∷ s) h = omega (arith, pow-suc 256 (length s), value-fits s (h .1))

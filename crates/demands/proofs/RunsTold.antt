@@ -64,7 +64,8 @@ run-numbers (suc places) s place b =
     let answer = answerTo b (readAt s place) in
     go (ltb place (length s)) (answer .ends) _ (run-numbers places s (place + answer .length) (answer .book))
   where
-    go : (there ends : Bool) (more : Ran) → AllNumbered more → let answer = answerTo b (readAt s place) in AllNumbered (cond there (answer before cond ends (ended place (answer .book)) more) (ended place b))
+    go : (there ends : Bool) (more : Ran) → AllNumbered more
+        → let answer = answerTo b (readAt s place) in AllNumbered (cond there (answer before cond ends (ended place (answer .book)) more) (ended place b))
     go false ends more rest = tt
     go true true more rest = (answer-number b s place, tt)
     go true false more rest = (answer-number b s place, rest)

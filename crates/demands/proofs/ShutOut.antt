@@ -40,7 +40,8 @@ use Rattle.demands.specs.WrongDesks.{OnShown, ShutOut, Tells, alwaysSame
 use Rattle.demands.proofs.GiftOfLists.{gift-by, richer-more, step-leads}
 
 -- one outcome beside another, for every entry of a list
-repeated : {X : ℕ} {first second : Outcome} → Likewise X first second → (entries : List (Entry × Figures)) → EachPair (Likewise X) (map (λ entry. first) entries) (map (λ entry. second) entries)
+repeated : {X : ℕ} {first second : Outcome} → Likewise X first second → (entries : List (Entry × Figures))
+    → EachPair (Likewise X) (map (λ entry. first) entries) (map (λ entry. second) entries)
 repeated alike [] = tt
 repeated alike (e ∷ es) = (alike, repeated alike es)
 
@@ -85,7 +86,8 @@ unfolding listVerdict runFrom answerTo readAt readFrom ofKind wholeAt lengthFits
 shown = refl
 
 -- four answers fill a slice of four places
-filled : {A : Type 0} (part : ℕ × ℤ → A) (answers : List (ℕ × ℤ)) → answers ≡ shownAnswers → (lent : List A) → length lent ≡ 4 → map part answers ++ drop (length answers) lent ≡ map part shownAnswers
+filled : {A : Type 0} (part : ℕ × ℤ → A) (answers : List (ℕ × ℤ)) → answers ≡ shownAnswers → (lent : List A) → length lent ≡ 4
+    → map part answers ++ drop (length answers) lent ≡ map part shownAnswers
 filled part answers e lent four =
     ap (λ (given : List (ℕ × ℤ)). map part given ++ drop (length given) lent) e ∙ ap (map part shownAnswers ++_) (drop-of-length-le lent {i = 4} (omega arith))
 

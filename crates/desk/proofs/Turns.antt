@@ -49,7 +49,7 @@ as-long : {A : Type 0} (lent now : List A) (k : ℕ) (all more : List A) → set
 as-long lent now k all more e = sym (length-sets now k more) ∙ sym (ap length e) ∙ length-sets lent 0 all
 
 module _ (whole : Ran) (k : ℕ) (numbers₀ numbers : List ℕ) (sums₀ sums : List ℤ) where
-  pub one-turn : (answer : Answered) (more : Ran) → Stands whole (answer before more) k numbers₀ numbers sums₀ sums
+  one-turn : (answer : Answered) (more : Ran) → Stands whole (answer before more) k numbers₀ numbers sums₀ sums
       → Stands whole more (k + 1) numbers₀ (set numbers k (answer .number)) sums₀ (set sums k (answer .available))
   one-turn answer more so =
       record {

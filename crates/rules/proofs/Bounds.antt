@@ -18,7 +18,7 @@ use Rattle.rules.specs.declared.amount.Rates.{Rates}
 use Rattle.rules.proofs.Less.{bounded}
 use Rattle.rules.proofs.Rounding.{hundreds}
 
-pub amount-bounded : (most : ℕ) (q : Rates) (t : Right) (S P K : ℕ) → S ≤ most → P ≤ most → K ≤ most → amountOf q t S P K ≤ 100 * most + q .r * most + q .f * most
+amount-bounded : (most : ℕ) (q : Rates) (t : Right) (S P K : ℕ) → S ≤ most → P ≤ most → K ≤ most → amountOf q t S P K ≤ 100 * most + q .r * most + q .f * most
 unfolding amountOf
 amount-bounded most q Call S P K s p k =
     omega (arith, bounded (q .r * P) (100 * outOfTheMoney Call P K) (q .f * P), mul-le-mul-left (q .r) p, mul-le-mul-left (q .f) p)

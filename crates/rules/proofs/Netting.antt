@@ -34,7 +34,7 @@ module _ (p : Position) where
   unfolding netted againstShort againstCovered
   one-side = omega arith
 
-  pub no-cover-left : min (netted p .long .0) (netted p .covered .0) ≡ 0
+  no-cover-left : min (netted p .long .0) (netted p .covered .0) ≡ 0
   unfolding netted againstShort againstCovered
   no-cover-left = omega arith
 
