@@ -18,8 +18,8 @@ use Rattle.writing.specs.Writing.{lengthFor, recordOf}
 use Rattle.demands.specs.Each.{Each, EachPair}
 use Rattle.demands.specs.GiftRuns.{Alike, AlikeRecord, BooksAlike, ReadAlike, higher, more, same}
 use Rattle.demands.specs.Records.{Carried, recordsOf}
-use Rattle.demands.proofs.ListOfRecords.{carried-goes-on, carried-read, readOf}
-use Rattle.demands.proofs.WrittenRead.{record-length}
+use Rattle.demands.proofs.Entries.ListOfRecords.{carried-goes-on, carried-read, readOf}
+use Rattle.demands.proofs.Records.WrittenRead.{record-length}
 
 -- alike entries are of one kind, and a day end is the same in both
 alike-length : {X : ℕ} {entry entry' : Entry} → Alike X entry entry' → lengthFor entry' ≡ lengthFor entry

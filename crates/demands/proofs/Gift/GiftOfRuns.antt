@@ -23,12 +23,12 @@ use Rattle.desk.proofs.run_book.Reads as run-book
 use Rattle.desk.proofs.run_list.Reads as run-list
 use Rattle.demands.specs.Each.{Each}
 use Rattle.demands.specs.GiftRuns.{BookBeside, BooksAlike, FirstAccepts, GivenBeside, ReadAlike, SecondToo}
-use Rattle.demands.proofs.BooksBeside.{Abreast, Room, abreast-beside}
-use Rattle.demands.proofs.EveryEntry.{book-sums, list-sums}
-use Rattle.demands.proofs.ListsBeside.{list-accepted, list-few, list-steps}
-use Rattle.demands.proofs.Relisted.{same-row}
-use Rattle.demands.proofs.RunsBeside.{AllAccepted, InStep, ReadsOn, together}
-use Rattle.demands.proofs.RunsTold.{read-goes-on}
+use Rattle.demands.proofs.Answers.RunsTold.{read-goes-on}
+use Rattle.demands.proofs.Entries.EveryEntry.{book-sums, list-sums}
+use Rattle.demands.proofs.Gift.BooksBeside.{Abreast, Room, abreast-beside}
+use Rattle.demands.proofs.Gift.ListsBeside.{list-accepted, list-few, list-steps}
+use Rattle.demands.proofs.Gift.Relisted.{same-row}
+use Rattle.demands.proofs.Gift.RunsBeside.{AllAccepted, InStep, ReadsOn, together}
 
 -- what the caller of a run holds afterwards, by the runs with fewer places
 record Held (runs : ℕ → Ran) (n : ℕ) (r : Run) (numbers : List ℕ) (sums : List ℤ) : Type 0 where

@@ -32,7 +32,7 @@ use Rattle.reading.specs.declared.Answer.the-variants.{Found}
 use Rattle.reading.specs.declared.Reading.{Reading}
 use Rattle.writing.specs.Writing.{lengthFor, headOf, recordOf, countsBarred}
 use Rattle.demands.specs.Records.{Below, AreBytes, Fit, Typed}
-use Rattle.demands.proofs.ReadBytes.{below-take, below-drop, packed-numbers, numbers-fit}
+use Rattle.demands.proofs.Records.ReadBytes.{below-take, below-drop, packed-numbers, numbers-fit}
 
 -- an entry that was read of a code was read of a word that has it
 by-word : {W : Type 0} (code : W → ℕ) (saying : W → EntryCoded) (ws : List W) (n : ℕ) {entry : Entry} → coded code saying Unlisted ws n ≡ Listed entry → (w : W) × (code w ≡ n) × (saying w ≡ Listed entry)

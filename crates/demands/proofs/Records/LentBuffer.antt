@@ -15,8 +15,8 @@ use Rattle.writing.specs.Writing.{lengthFor, recordOf, countsBarred, writtenFor
 use Rattle.writing.specs.declared.Written.{Written}
 use Rattle.writing.specs.declared.Written.the-variants.{Bytes, Refused}
 use Rattle.demands.specs.Records.{AreBytes, Typed, figuresKept}
-use Rattle.demands.proofs.ReadWritten.{read-written, read-accepted}
-use Rattle.demands.proofs.WrittenRead.{written-read}
+use Rattle.demands.proofs.Records.ReadWritten.{read-written, read-accepted}
+use Rattle.demands.proofs.Records.WrittenRead.{written-read}
 
 taken : (entry : Entry) (size : ℕ) → countsBarred entry ≡ false → lengthFor entry ≤ size → writtenFor entry size ≡ Bytes (lengthFor entry)
 unfolding writtenFor

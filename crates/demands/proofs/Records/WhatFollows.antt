@@ -10,8 +10,8 @@ use Rattle.reading.specs.Reading.{readAt}
 use Rattle.reading.specs.declared.Answer.the-variants.{Found}
 use Rattle.writing.specs.Writing.{recordOf, lengthFor}
 use Rattle.demands.specs.Records.{AreBytes, figuresKept}
-use Rattle.demands.proofs.ReadWritten.{read-written, read-accepted, read-typed}
-use Rattle.demands.proofs.WrittenRead.{written-read}
+use Rattle.demands.proofs.Records.ReadWritten.{read-written, read-accepted, read-typed}
+use Rattle.demands.proofs.Records.WrittenRead.{written-read}
 
 module _ (s : List ℕ) (lent : AreBytes s) (place : ℕ) {entry : Entry} {len : ℕ} (e : readAt s place .answer ≡ Found entry len) where
   -- with anything behind the record

@@ -33,7 +33,7 @@ use Rattle.set_up.specs.declared.stages.Stage.{Stage}
 use Rattle.set_up.specs.declared.stages.Stage.the-variants.{Underlyings, Contracts, Entries}
 use Rattle.demands.specs.Each.{Each, OneOf, runNumbers}
 use Rattle.demands.specs.InOrder.{contractTests, due, listTests, newContractTests, newUnderlyingTests, openingTests, recordTests, underlyingTests, wrong}
-use Rattle.demands.proofs.PaperNumbers.{first-among}
+use Rattle.demands.proofs.Answers.PaperNumbers.{first-among}
 
 each-stage : (P : Stage → Type 0) → P Underlyings × P Contracts × P Entries → (stage : Stage) → P stage
 each-stage P stages Underlyings = stages .0

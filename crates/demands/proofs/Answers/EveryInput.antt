@@ -51,12 +51,12 @@ use Rattle.desk.proofs.run_list.Statement as run-list-statement
 use Rattle.demands.specs.Each.{Each, OneOf, runNumbers}
 use Rattle.demands.specs.InOrder.{listTests, readingTests, writingTests}
 use Rattle.demands.specs.Records.{Typed}
-use Rattle.demands.proofs.EntriesTold.{list-number}
-use Rattle.demands.proofs.PaperNumbers.{chosen, first-among}
-use Rattle.demands.proofs.RecordsTold.{read-number, write-number, write-untouched}
-use Rattle.demands.proofs.RunsTold.{answered-numbers, beyond-answered, list-run-numbers, run-numbers, refused-list}
-use Rattle.demands.proofs.Told.{margin-says, premium-says}
-use Rattle.demands.proofs.WrittenRead.{record-length}
+use Rattle.demands.proofs.Answers.EntriesTold.{list-number}
+use Rattle.demands.proofs.Answers.PaperNumbers.{chosen, first-among}
+use Rattle.demands.proofs.Answers.RecordsTold.{read-number, write-number, write-untouched}
+use Rattle.demands.proofs.Answers.RunsTold.{answered-numbers, beyond-answered, list-run-numbers, run-numbers, refused-list}
+use Rattle.demands.proofs.Answers.Told.{margin-says, premium-says}
+use Rattle.demands.proofs.Records.WrittenRead.{record-length}
 
 -- "every input gets an answer": run on whatever its types allow, each public function ends in what its contract says
 pub margin-answers : (M : Type 1) → margin-statement.statement M

@@ -27,8 +27,8 @@ use Rattle.account.specs.declared.judged.Verdict.the-variants.{Accepted}
 use Rattle.account.specs.declared.tables.Tables.{Tables}
 use Rattle.account.proofs.FillSound.{fill-passed}
 use Rattle.demands.specs.Gift.{RoomFor, RoomierTables, richer, richerSheet}
-use Rattle.demands.proofs.ChecksToo.{check-too, unless-too, under-higher, within-ceiling}
-use Rattle.demands.proofs.Relisted.{Too, withCash, relisted, margin-same, hold-same}
+use Rattle.demands.proofs.Gift.ChecksToo.{check-too, unless-too, under-higher, within-ceiling}
+use Rattle.demands.proofs.Gift.Relisted.{Too, withCash, relisted, margin-same, hold-same}
 
 -- what a named order is judged by, with another sheet, hold and margin
 abbrev namedWith : Named → Sheet → ℕ → ℕ → Named

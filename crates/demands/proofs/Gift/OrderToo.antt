@@ -23,8 +23,8 @@ use Rattle.account.specs.declared.tables.Tables.{Tables}
 use Rattle.account.proofs.Available.{more-cash}
 use Rattle.account.proofs.Passed.{accepted-passed, facts-known}
 use Rattle.demands.specs.Gift.{Roomier, RoomierTables, richerSheet, richer}
-use Rattle.demands.proofs.ChecksToo.{check-too, unless-too, under-higher, within-more}
-use Rattle.demands.proofs.Relisted.{Too, relisted, hold-same}
+use Rattle.demands.proofs.Gift.ChecksToo.{check-too, unless-too, under-higher, within-more}
+use Rattle.demands.proofs.Gift.Relisted.{Too, relisted, hold-same}
 
 -- the facts of an order, with other limits and other sums of money
 abbrev factsWith : Facts → Underlying → Sheet → ℤ → ℕ → Facts

@@ -26,7 +26,7 @@ use Rattle.set_up.specs.declared.stages.Book.{Book}
 use Rattle.desk.specs.Runs.{answerBy, answerTo, availableIn}
 use Rattle.desk.proofs.Answered.{answer-sound}
 use Rattle.demands.specs.EveryEntry.{AfterEntry, AsRuled}
-use Rattle.demands.proofs.PaperNumbers.{refusal-number}
+use Rattle.demands.proofs.Answers.PaperNumbers.{refusal-number}
 
 as-ruled : (t : Tables) (a : Account) → Sound t a → AsRuled t a
 as-ruled t a s = record { margin = s .margin; holds = s .holds; rights = s .rights; total = s .total; daily = s .daily }

@@ -30,10 +30,10 @@ use Rattle.desk.proofs.Started.{Leaves}
 use Rattle.desk.proofs.Within.{Within, read-within}
 use Rattle.demands.specs.Each.{Each, OneOf, runNumbers}
 use Rattle.demands.specs.InOrder.{readingTests}
-use Rattle.demands.proofs.EntriesTold.{verdict-among}
-use Rattle.demands.proofs.LentSlices.{beyond-answers, first-answers}
-use Rattle.demands.proofs.PaperNumbers.{first-among}
-use Rattle.demands.proofs.RecordsTold.{read-number}
+use Rattle.demands.proofs.Answers.EntriesTold.{verdict-among}
+use Rattle.demands.proofs.Answers.LentSlices.{beyond-answers, first-answers}
+use Rattle.demands.proofs.Answers.PaperNumbers.{first-among}
+use Rattle.demands.proofs.Answers.RecordsTold.{read-number}
 
 answer-number : (b : Book) (s : List ℕ) (place : ℕ) → OneOf runNumbers (answerTo b (readAt s place) .number)
 unfolding answerTo entered

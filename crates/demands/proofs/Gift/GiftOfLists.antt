@@ -14,7 +14,7 @@ use Rattle.account.specs.declared.tables.Tables.{Tables}
 use Rattle.account.proofs.Available.{more-cash}
 use Rattle.demands.specs.Each.{Each, EachPair}
 use Rattle.demands.specs.Gift.{Gift, Likewise, RoomFor, RoomierTables, XMore, richer}
-use Rattle.demands.proofs.EntriesToo.{entry-too}
+use Rattle.demands.proofs.Gift.EntriesToo.{entry-too}
 
 -- an outcome beside the first's: the same but for X fen and the limits
 pub record Follows (X : ℕ) (first second : Outcome) : Type 0 where

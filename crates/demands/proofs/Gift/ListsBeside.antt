@@ -37,9 +37,9 @@ use Rattle.set_up.specs.declared.stages.Stage.the-variants.{Entries}
 use Rattle.desk.specs.Runs.{Ran, listBy, listRun, runFrom}
 use Rattle.desk.proofs.Places.{few-answers}
 use Rattle.demands.specs.GiftRuns.{GivenBeside, same}
-use Rattle.demands.proofs.BooksBeside.{Abreast, Room, both-pass, was-accepted, when-accepted}
-use Rattle.demands.proofs.Relisted.{relisted, roomier-relisted}
-use Rattle.demands.proofs.RunsBeside.{AllAccepted, InStep, ReadsOn, both-so, together}
+use Rattle.demands.proofs.Gift.BooksBeside.{Abreast, Room, both-pass, was-accepted, when-accepted}
+use Rattle.demands.proofs.Gift.Relisted.{relisted, roomier-relisted}
+use Rattle.demands.proofs.Gift.RunsBeside.{AllAccepted, InStep, ReadsOn, both-so, together}
 
 -- the first's tables with other rows of underlyings, each of them allowed
 relisted-too : (t : Tables) (rows : List Underlyings·of.Underlying) (cash cash' : ℕ) → ((u : ℕ) → u < t .m → underlyingAllowed (underlying (relisted t rows) u) ≡ true)

@@ -23,9 +23,9 @@ use Rattle.desk.proofs.Started.{Leaves}
 use Rattle.desk.proofs.run_book.Reads as run-book
 use Rattle.desk.proofs.run_list.Reads as run-list
 use Rattle.demands.specs.EveryEntry.{AfterEntry}
-use Rattle.demands.proofs.AfterEach.{Between, after-each, as-answered}
-use Rattle.demands.proofs.LentSlices.{answer-at}
-use Rattle.demands.proofs.OneAnswer.{answer-available, answer-told}
+use Rattle.demands.proofs.Entries.AfterEach.{Between, after-each, as-answered}
+use Rattle.demands.proofs.Answers.LentSlices.{answer-at}
+use Rattle.demands.proofs.Entries.OneAnswer.{answer-available, answer-told}
 
 -- what holds of the answer to any record, from such a start, holds of what was written at each answered place
 module _ (Start : Book → Type 0) (Told : Book → Book → Reading → ℕ → ℤ → Type 0) (next : (b : Book) (reading : Reading) → Start b → Start (answerTo b reading .book))

@@ -22,8 +22,8 @@ use Rattle.account.specs.declared.tables.Tables.{Tables}
 use Rattle.account.proofs.Available.{more-cash}
 use Rattle.account.proofs.NothingShort.{withdraw-exact}
 use Rattle.demands.specs.Gift.{RoomFor, RoomierTables, richerSheet}
-use Rattle.demands.proofs.ChecksToo.{check-too, within-more, within-ceiling}
-use Rattle.demands.proofs.Relisted.{Too, withCash, relisted}
+use Rattle.demands.proofs.Gift.ChecksToo.{check-too, within-more, within-ceiling}
+use Rattle.demands.proofs.Gift.Relisted.{Too, withCash, relisted}
 
 module _ (X : ℕ) (t : Tables) (rows : List Underlying) (roomier : RoomierTables t (relisted t rows)) (a : Account) (f : Figures) (amount : ℕ) where
   pub deposit-too : refusalOf t a (Deposit amount) f ≡ Accepted → RoomFor X (accountAfter t a (Deposit amount) f) → Too X t (relisted t rows) a (Deposit amount) f

@@ -28,9 +28,9 @@ use Rattle.reading.specs.declared.Reading.{Reading}
 use Rattle.reading.proofs.Words.{class-word, right-word, kind-word}
 use Rattle.writing.specs.Writing.{nOf, mOf, lengthFor, headOf, recordOf, countsBarred}
 use Rattle.demands.specs.Records.{Below, Fit, Typed, figuresKept}
-use Rattle.demands.proofs.DayEndLengths.{day-end-lengths}
-use Rattle.demands.proofs.Packing.{packed-read, packed-length}
-use Rattle.demands.proofs.ReadWritten.{figures-kept, found}
+use Rattle.demands.proofs.Records.DayEndLengths.{day-end-lengths}
+use Rattle.demands.proofs.Records.Packing.{packed-read, packed-length}
+use Rattle.demands.proofs.Records.ReadWritten.{figures-kept, found}
 
 -- an entry's kind and fields say the entry
 said : (entry : Entry) → entryOf (kindOf entry) (fieldsIn entry) ≡ Listed entry

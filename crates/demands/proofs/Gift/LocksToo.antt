@@ -13,7 +13,7 @@ use Rattle.account.specs.declared.account.Account.{Account}
 use Rattle.account.specs.declared.judged.Verdict.the-variants.{Accepted}
 use Rattle.account.specs.declared.tables.Tables.{Tables}
 use Rattle.demands.specs.Gift.{RoomierTables}
-use Rattle.demands.proofs.Relisted.{Too, relisted}
+use Rattle.demands.proofs.Gift.Relisted.{Too, relisted}
 
 module _ (X : ℕ) (t : Tables) (rows : List Underlying) (roomier : RoomierTables t (relisted t rows)) (a : Account) (f : Figures) (u units : ℕ) where
   pub lock-too : refusalOf t a (Lock u units) f ≡ Accepted → Too X t (relisted t rows) a (Lock u units) f

@@ -13,13 +13,13 @@ use Rattle.account.specs.declared.account.Account.{Account}
 use Rattle.account.specs.declared.judged.Verdict.the-variants.{Accepted, Refused}
 use Rattle.account.specs.declared.tables.Tables.{Tables}
 use Rattle.demands.specs.Gift.{RoomFor, RoomierTables}
-use Rattle.demands.proofs.DayEndToo.{day-end-too}
-use Rattle.demands.proofs.FillToo.{fill-too, cancel-too}
-use Rattle.demands.proofs.LocksToo.{lock-too, unlock-too}
-use Rattle.demands.proofs.OrderToo.{order-too}
-pub use Rattle.demands.proofs.Relisted.{Too}
-use Rattle.demands.proofs.Relisted.{relisted, roomier-relisted, relisted-roomier}
-use Rattle.demands.proofs.TransfersToo.{deposit-too, withdraw-too}
+use Rattle.demands.proofs.Gift.DayEndToo.{day-end-too}
+use Rattle.demands.proofs.Gift.FillToo.{fill-too, cancel-too}
+use Rattle.demands.proofs.Gift.LocksToo.{lock-too, unlock-too}
+use Rattle.demands.proofs.Gift.OrderToo.{order-too}
+pub use Rattle.demands.proofs.Gift.Relisted.{Too}
+use Rattle.demands.proofs.Gift.Relisted.{relisted, roomier-relisted, relisted-roomier}
+use Rattle.demands.proofs.Gift.TransfersToo.{deposit-too, withdraw-too}
 
 -- a set-up record is out of its place and never accepted
 never-accepted : Refused OutOfPlace ≡ Accepted → ⊥

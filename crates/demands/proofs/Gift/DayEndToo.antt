@@ -22,7 +22,7 @@ use Rattle.account.specs.declared.tables.Tables.{Tables}
 use Rattle.account.proofs.Listed.{listed-length, listed-at}
 use Rattle.account.proofs.Sums.{Σ-same}
 use Rattle.demands.specs.Gift.{Roomier, RoomierTables, richer}
-use Rattle.demands.proofs.Relisted.{Too, margin-same, relisted, same-row}
+use Rattle.demands.proofs.Gift.Relisted.{Too, margin-same, relisted, same-row}
 
 -- a row with a new close, or as it was where the tables have no such row
 closed-roomier : (there : Bool) (p q : Underlying) (price : ℕ) → Roomier p q → Roomier (cond there (closed p price) p) (cond there (closed q price) q)

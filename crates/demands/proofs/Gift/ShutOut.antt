@@ -37,7 +37,7 @@ use Rattle.demands.specs.Each.{EachPair}
 use Rattle.demands.specs.Gift.{Desk, Gift, Likewise, XMore, richer}
 use Rattle.demands.specs.Records.{recordsOf}
 use Rattle.demands.specs.WrongDesks.{OnShown, ShutOut, Tells, alwaysSame, booksNothing, forgetsDaily, pretends, refusesAll, shownCash, shownEntries, shownTables}
-use Rattle.demands.proofs.GiftOfLists.{gift-by, richer-more, step-leads}
+use Rattle.demands.proofs.Gift.GiftOfLists.{gift-by, richer-more, step-leads}
 
 -- one outcome beside another, for every entry of a list
 repeated : {X : ℕ} {first second : Outcome} → Likewise X first second → (entries : List (Entry × Figures))

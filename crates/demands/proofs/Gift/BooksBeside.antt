@@ -34,9 +34,9 @@ use Rattle.set_up.specs.declared.stages.Stage.the-variants.{Underlyings, Contra
 use Rattle.set_up.proofs.Entering.{open-stage, verdict}
 use Rattle.demands.specs.Gift.{RoomFor, Roomier, RoomierTables, XMore, richer}
 use Rattle.demands.specs.GiftRuns.{Alike, BookBeside, higher, more, same}
-use Rattle.demands.proofs.EntriesToo.{entry-too}
-use Rattle.demands.proofs.GiftOfLists.{richer-more}
-use Rattle.demands.proofs.Relisted.{same-row}
+use Rattle.demands.proofs.Gift.EntriesToo.{entry-too}
+use Rattle.demands.proofs.Gift.GiftOfLists.{richer-more}
+use Rattle.demands.proofs.Gift.Relisted.{same-row}
 
 -- the second's account, by the stage of both: X fen more from the opening on
 abbrev givenAt : Stage → ℕ → Account → Account

@@ -19,9 +19,9 @@ use Rattle.desk.specs.Runs.{Ran, ended, runFrom}
 use Rattle.desk.proofs.Turns.{no-byte}
 use Rattle.demands.specs.Each.{Each}
 use Rattle.demands.specs.GiftRuns.{Alike}
-use Rattle.demands.proofs.BooksBeside.{Abreast, Room, entered-onward}
-use Rattle.demands.proofs.PaperNumbers.{refusal-number}
-use Rattle.demands.proofs.RunsTold.{led, read-goes-on, read-so, unread-ends}
+use Rattle.demands.proofs.Answers.PaperNumbers.{refusal-number}
+use Rattle.demands.proofs.Answers.RunsTold.{led, read-goes-on, read-so, unread-ends}
+use Rattle.demands.proofs.Gift.BooksBeside.{Abreast, Room, entered-onward}
 
 -- no refusal has the number 0
 accepted-number : (v : Verdict) → numberIn v ≡ 0 → v ≡ Accepted

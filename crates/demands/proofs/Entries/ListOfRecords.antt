@@ -26,8 +26,8 @@ use Rattle.set_up.specs.declared.stages.Stage.the-variants.{Entries}
 use Rattle.desk.specs.Runs.{Ran, listBy, listRun, runFrom}
 use Rattle.demands.specs.Each.{Each}
 use Rattle.demands.specs.Records.{Carried, answerOf, recordsOf}
-use Rattle.demands.proofs.RunsTold.{led, read-so}
-use Rattle.demands.proofs.WrittenRead.{record-length, written-read}
+use Rattle.demands.proofs.Answers.RunsTold.{led, read-so}
+use Rattle.demands.proofs.Records.WrittenRead.{record-length, written-read}
 
 -- an open book
 abbrev inHand : Tables → Account → Book

@@ -1,0 +1,10 @@
+-- Demand 1: every input gets an answer, by number, in one outcome, and a refusal leaves everything as it was.
+pub mod BooksTold
+pub mod EntriesTold
+pub mod EveryInput
+pub mod LentSlices
+pub mod OneOutcome
+pub mod PaperNumbers
+pub mod RecordsTold
+pub mod RunsTold
+pub mod Told
