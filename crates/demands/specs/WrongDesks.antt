@@ -81,9 +81,10 @@ pub record Tells (outcomes : List Outcome) (numbers : List ℕ) (sums : List ℤ
 abbrev pub OnShown : (List ℕ → List ℤ → Type 0) → Type 0
 OnShown Holds =
     (κs : _) (a : _) (r : _) (s : _) → run-list.Post κs a r s
-    → a .0 ≡ shownTables → a .1 .0 ≡ shownCash → now (a .1 .1 .0) ≡ recordsOf shownEntries
-    → length (now (a .1 .1 .1 .0)) ≡ 4 → length (now (a .1 .1 .1 .1 .0)) ≡ 4
-    → Holds (now (s .1 .1 .1 .0)) (now (s .1 .1 .1 .1 .0))
+    → let (tables, cash, bytes) : Tables × ℕ × List ℕ = (a .0, a .1 .0, now (a .1 .1 .0)) in
+    let (places, places') : ℕ × ℕ = (length (now (a .1 .1 .1 .0)), length (now (a .1 .1 .1 .1 .0))) in
+    let (numbers, sums) : List ℕ × List ℤ = (now (s .1 .1 .1 .0), now (s .1 .1 .1 .1 .0)) in
+    tables ≡ shownTables → cash ≡ shownCash → bytes ≡ recordsOf shownEntries → places ≡ 4 → places' ≡ 4 → Holds numbers sums
 
 -- no such run tells what the desk makes of the list
 abbrev pub ShutOut : Desk → Type 0

@@ -23,8 +23,8 @@ use Rattle.desk.proofs.Started.{Leaves}
 use Rattle.desk.proofs.run_book.Reads as run-book
 use Rattle.desk.proofs.run_list.Reads as run-list
 use Rattle.demands.specs.EveryEntry.{AfterEntry}
-use Rattle.demands.proofs.Entries.AfterEach.{Between, after-each, as-answered}
 use Rattle.demands.proofs.Answers.LentSlices.{answer-at}
+use Rattle.demands.proofs.Entries.AfterEach.{Between, after-each, as-answered}
 use Rattle.demands.proofs.Entries.OneAnswer.{answer-available, answer-told}
 
 -- what holds of the answer to any record, from such a start, holds of what was written at each answered place

@@ -17,8 +17,7 @@ use Rattle.demands.proofs.Gift.DayEndToo.{day-end-too}
 use Rattle.demands.proofs.Gift.FillToo.{fill-too, cancel-too}
 use Rattle.demands.proofs.Gift.LocksToo.{lock-too, unlock-too}
 use Rattle.demands.proofs.Gift.OrderToo.{order-too}
-pub use Rattle.demands.proofs.Gift.Relisted.{Too}
-use Rattle.demands.proofs.Gift.Relisted.{relisted, roomier-relisted, relisted-roomier}
+use Rattle.demands.proofs.Gift.Relisted.{Too, relisted, relisted-roomier, roomier-relisted}
 use Rattle.demands.proofs.Gift.TransfersToo.{deposit-too, withdraw-too}
 
 -- a set-up record is out of its place and never accepted
