@@ -35,7 +35,7 @@ pub record GivenBeside (X : ℕ) (t t' : Tables) (cash cash' : ℕ) : Type 0 whe
 pub data Alike (X : ℕ) : Entry → Entry → Type 0 where
   higher : (p q : Underlying) → Roomier p q → underlyingAllowed q ≡ true → Alike X (Entry·of.Underlying p) (Entry·of.Underlying q)
   more : (cash : ℕ) → Alike X (Entry·of.Opening cash) (Entry·of.Opening (cash + X))
-  same : (entry : Entry) → codeOf (kindOf entry) < 18 → Alike X entry entry
+  same : (entry : Entry) → codeOf (kindOf entry) < 18 → Alike X entry entry  -- of any kind but 18, the opening
 
 -- two records of alike entries with the same figures
 abbrev pub AlikeRecord : ℕ → Entry × Figures → Entry × Figures → Type 0

@@ -110,6 +110,6 @@ listTests t cash =
     (not (ltb 0 (t .n)), 5)  -- "an opening with no contract yet"
     ∷ (t .m above 8, 4)  -- "up to 8 underlyings"
     ∷ (t .n above 64, 4)  -- "64 contracts"
-    ∷ (some (t .m) (λ u. wrong (underlyingTests (underlying t u))), 4)
-    ∷ (some (t .n) (λ c. wrong (contractTests (t .m) (contract t c))), 4)
+    ∷ (some (t .m) (λ u. wrong (underlyingTests (underlying t u))), 4)  -- the values of each underlying
+    ∷ (some (t .n) (λ c. wrong (contractTests (t .m) (contract t c))), 4)  -- and of each contract
     ∷ openingTests cash

@@ -14,7 +14,7 @@ use Rattle.entries.specs.Entries.{kindOf}
 use Rattle.entries.specs.Table.{codeOf}
 use Rattle.entries.specs.declared.entry.Contract as Contracts·of
 use Rattle.entries.specs.declared.entry.Entry.{Entry}
-use Rattle.entries.specs.declared.entry.Entry.the-variants.{Deposit, Withdraw, Lock, Unlock, Order, Fill, Cancel, DayEnd, Underlying, Contract, Opening}
+use Rattle.entries.specs.declared.entry.Entry.the-variants.{Underlying, Contract}
 use Rattle.entries.specs.declared.entry.Figures.{Figures}
 use Rattle.entries.specs.declared.entry.Underlying as Underlyings·of
 use Rattle.account.specs.DayEnd.{every}
@@ -38,7 +38,7 @@ use Rattle.set_up.specs.Stages.{bookAfter, contractVerdict, entered, ent
 use Rattle.set_up.specs.declared.stages.Book.{Book}
 use Rattle.set_up.specs.declared.stages.Stage.{Stage}
 use Rattle.set_up.specs.declared.stages.Stage.the-variants.{Underlyings, Contracts, Entries}
-use Rattle.set_up.proofs.Entering.{open-stage, verdict}
+use Rattle.set_up.proofs.Entering.{after-entry, each-entry, entry-verdict, open-stage, verdict}
 
 abbrev isOpen : Stage → Bool
 isOpen Underlyings = false
@@ -115,17 +115,12 @@ module _ (b : Book) (s : SoundBook b) where
 
     accepted-sound : (entry : Entry) → inPlace (b .stage) (codeOf (kindOf entry)) ≡ true → verdict b f entry ≡ Accepted → SoundBook (bookAfter b entry f)
     unfolding bookAfter
-    accepted-sound (Deposit amount) placed e = entry-sound (Deposit amount) (omega arith) placed e
-    accepted-sound (Withdraw amount) placed e = entry-sound (Withdraw amount) (omega arith) placed e
-    accepted-sound (Lock u units) placed e = entry-sound (Lock u units) (omega arith) placed e
-    accepted-sound (Unlock u units) placed e = entry-sound (Unlock u units) (omega arith) placed e
-    accepted-sound (Order o) placed e = entry-sound (Order o) (omega arith) placed e
-    accepted-sound (Fill fill) placed e = entry-sound (Fill fill) (omega arith) placed e
-    accepted-sound (Cancel number) placed e = entry-sound (Cancel number) (omega arith) placed e
-    accepted-sound (DayEnd n m) placed e = entry-sound (DayEnd n m) (omega arith) placed e
-    accepted-sound (Underlying row) placed e = underlying-sound row e
-    accepted-sound (Contract row) placed e = contract-sound row e
-    accepted-sound (Opening cash) placed e = opened-sound (b .tables) cash (s .tables) (went-on _ OutOfRange Accepted e .0)
+    accepted-sound =
+        each-entry (λ entry. inPlace (b .stage) (codeOf (kindOf entry)) ≡ true → verdict b f entry ≡ Accepted → SoundBook (bookAfter b entry f))
+        (λ entry few placed e. subst SoundBook (sym (after-entry b f entry few)) (entry-sound entry few placed (sym (entry-verdict b f entry few) ∙ e)))
+        (λ row placed e. underlying-sound row e)
+        (λ row placed e. contract-sound row e)
+        (λ cash placed e. opened-sound (b .tables) cash (s .tables) (went-on _ OutOfRange Accepted e .0))
 
 pub entered-sound : (b : Book) (entry : Entry) (f : Figures) → SoundBook b → SoundBook (entered b entry f .book)
 unfolding entered recordVerdict

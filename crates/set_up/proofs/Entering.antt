@@ -1,4 +1,4 @@
--- A record goes by its verdict: a check that fails refuses it and leaves the book as it was, and where none fails the book is the one after it. An entry, whose number is at most 8, is in its place only in an open book.
+-- A record goes by its verdict: a check that fails refuses it and leaves the book as it was, and where none fails the book is the one after it. An entry, whose number is at most 8, is in its place only in an open book, and goes by what is said of all kinds but set-up's.
 use mathlib.Core.Path.{_≡_, refl, sym, ap, _∙_}
 use mathlib.Core.Bool.{Bool, true, false, not}
 use Prim.Native.Nat.{ℕ, _≤_}
@@ -7,13 +7,18 @@ use borrow.Author.Tests.{not-true, not-false}
 use Rattle.terms.specs.Ranges.{_to_}
 use Rattle.terms.specs.declared.refusal.Refusal.{Refusal}
 use Rattle.terms.proofs.Ranges.{inside}
+use Rattle.entries.specs.Entries.{kindOf}
+use Rattle.entries.specs.Table.{codeOf}
+use Rattle.entries.specs.declared.entry.Contract as Contracts·of
 use Rattle.entries.specs.declared.entry.Entry.{Entry}
+use Rattle.entries.specs.declared.entry.Entry.the-variants.{Deposit, Withdraw, Lock, Unlock, Order, Fill, Cancel, DayEnd, Underlying, Contract, Opening}
 use Rattle.entries.specs.declared.entry.Figures.{Figures}
+use Rattle.entries.specs.declared.entry.Underlying as Underlyings·of
 use Rattle.account.specs.Steps.{refusalOf}
 use Rattle.account.specs.Verdicts.{_else_then_}
 use Rattle.account.specs.declared.judged.Verdict.{Verdict}
-use Rattle.account.specs.declared.judged.Verdict.the-variants.{Refused}
-use Rattle.set_up.specs.Stages.{bySetUp, contractVerdict, enteredAs, inPlace, openingVerdict, underlyingVerdict}
+use Rattle.account.specs.declared.judged.Verdict.the-variants.{Accepted, Refused}
+use Rattle.set_up.specs.Stages.{bookAfter, bySetUp, contractVerdict, entered, enteredAs, inPlace, opened, openingVerdict, recordVerdict, underlyingVerdict, withContract, withEntry, withUnderlying}
 use Rattle.set_up.specs.declared.stages.Book.{Book}
 use Rattle.set_up.specs.declared.stages.Entered.{Entered}
 use Rattle.set_up.specs.declared.stages.Stage.{Stage}
@@ -38,3 +43,50 @@ pub open-stage : (stage : Stage) (kind : ℕ) → kind ≤ 8 → inPlace stage k
 open-stage Underlyings kind few placed = absurd (omega (arith, inside kind (16 to 17) placed))
 open-stage Contracts kind few placed = absurd (omega (arith, inside kind (17 to 18) placed))
 open-stage Entries kind few placed = refl
+
+-- an entry of the account, or one of the three records of set-up
+pub each-entry : (P : Entry → Type 0) → ((entry : Entry) → codeOf (kindOf entry) ≤ 8 → P entry) → ((row : Underlyings·of.Underlying) → P (Underlying row))
+    → ((row : Contracts·of.Contract) → P (Contract row)) → ((cash : ℕ) → P (Opening cash)) → (entry : Entry) → P entry
+each-entry P booked underlying contract opening (Deposit amount) = booked (Deposit amount) (omega arith)
+each-entry P booked underlying contract opening (Withdraw amount) = booked (Withdraw amount) (omega arith)
+each-entry P booked underlying contract opening (Lock u units) = booked (Lock u units) (omega arith)
+each-entry P booked underlying contract opening (Unlock u units) = booked (Unlock u units) (omega arith)
+each-entry P booked underlying contract opening (Order o) = booked (Order o) (omega arith)
+each-entry P booked underlying contract opening (Fill fill) = booked (Fill fill) (omega arith)
+each-entry P booked underlying contract opening (Cancel number) = booked (Cancel number) (omega arith)
+each-entry P booked underlying contract opening (DayEnd n m) = booked (DayEnd n m) (omega arith)
+each-entry P booked underlying contract opening (Underlying row) = underlying row
+each-entry P booked underlying contract opening (Contract row) = contract row
+each-entry P booked underlying contract opening (Opening cash) = opening cash
+
+-- of the first, nothing is said by set-up
+pub no-set-up : {A : Type 0} (underlying : Underlyings·of.Underlying → A) (contract : Contracts·of.Contract → A) (opening : ℕ → A) (other : A) (entry : Entry)
+    → codeOf (kindOf entry) ≤ 8 → bySetUp underlying contract opening other entry ≡ other
+no-set-up underlying contract opening other (Deposit amount) few = refl
+no-set-up underlying contract opening other (Withdraw amount) few = refl
+no-set-up underlying contract opening other (Lock u units) few = refl
+no-set-up underlying contract opening other (Unlock u units) few = refl
+no-set-up underlying contract opening other (Order o) few = refl
+no-set-up underlying contract opening other (Fill fill) few = refl
+no-set-up underlying contract opening other (Cancel number) few = refl
+no-set-up underlying contract opening other (DayEnd n m) few = refl
+no-set-up underlying contract opening other (Underlying row) few = absurd (omega arith)
+no-set-up underlying contract opening other (Contract row) few = absurd (omega arith)
+no-set-up underlying contract opening other (Opening cash) few = absurd (omega arith)
+
+module _ (b : Book) (f : Figures) (entry : Entry) (few : codeOf (kindOf entry) ≤ 8) where
+  pub entry-verdict : verdict b f entry ≡ refusalOf (b .tables) (b .account) entry f
+  entry-verdict = no-set-up (underlyingVerdict (b .tables)) (contractVerdict (b .tables)) openingVerdict (refusalOf (b .tables) (b .account) entry f) entry few
+
+  pub after-entry : bookAfter b entry f ≡ withEntry b entry f
+  unfolding bookAfter
+  after-entry = no-set-up (withUnderlying b) (withContract b) (opened (b .tables)) (withEntry b entry f) entry few
+
+-- a record's verdict is told as it is
+pub entered-verdict : (b : Book) (entry : Entry) (f : Figures) → entered b entry f .verdict ≡ recordVerdict b entry f
+unfolding entered
+entered-verdict b entry f = go (recordVerdict b entry f)
+  where
+    go : (v : Verdict) → enteredAs v b (bookAfter b entry f) .verdict ≡ v
+    go Accepted = refl
+    go (Refused why) = refl

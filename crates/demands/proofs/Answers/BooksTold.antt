@@ -24,7 +24,7 @@ use Rattle.set_up.specs.Stages.{bookAfter, entered, enteredAs, inPlace, newBook
 use Rattle.set_up.specs.declared.stages.Book.{Book}
 use Rattle.set_up.specs.declared.stages.Stage.{Stage}
 use Rattle.set_up.specs.declared.stages.Stage.the-variants.{Underlyings, Contracts, Entries}
-use Rattle.set_up.proofs.Entering.{open-stage}
+use Rattle.set_up.proofs.Entering.{after-entry, each-entry, open-stage}
 use Rattle.demands.specs.Staged.{Staged}
 
 module _ (b : Book) (f : Figures) where
@@ -107,17 +107,12 @@ module _ (b : Book) (so : Staged b) where
 
     after-staged : (entry : Entry) → inPlace (b .stage) (codeOf (kindOf entry)) ≡ true → Staged (bookAfter b entry f)
     unfolding bookAfter
-    after-staged (Deposit amount) placed = entry-staged (Deposit amount) (omega arith) placed
-    after-staged (Withdraw amount) placed = entry-staged (Withdraw amount) (omega arith) placed
-    after-staged (Lock u units) placed = entry-staged (Lock u units) (omega arith) placed
-    after-staged (Unlock u units) placed = entry-staged (Unlock u units) (omega arith) placed
-    after-staged (Order o) placed = entry-staged (Order o) (omega arith) placed
-    after-staged (Fill fill) placed = entry-staged (Fill fill) (omega arith) placed
-    after-staged (Cancel number) placed = entry-staged (Cancel number) (omega arith) placed
-    after-staged (DayEnd n m) placed = entry-staged (DayEnd n m) (omega arith) placed
-    after-staged (Underlying row) placed = record { none = λ waits. so .none (first-stage (b .stage) placed); some = λ never. absurd (never refl) }
-    after-staged (Contract row) placed = past (withContract b row) refl (omega arith)
-    after-staged (Opening cash) placed = past (opened (b .tables) cash) refl (had-one (second-stage (b .stage) placed))
+    after-staged =
+        each-entry (λ entry. inPlace (b .stage) (codeOf (kindOf entry)) ≡ true → Staged (bookAfter b entry f))
+        (λ entry few placed. subst Staged (sym (after-entry b f entry few)) (entry-staged entry few placed))
+        (λ row placed. record { none = λ waits. so .none (first-stage (b .stage) placed); some = λ never. absurd (never refl) })
+        (λ row placed. past (withContract b row) refl (omega arith))
+        (λ cash placed. past (opened (b .tables) cash) refl (had-one (second-stage (b .stage) placed)))
 
     pub entered-staged : (entry : Entry) → Staged (entered b entry f .book)
     unfolding entered recordVerdict

@@ -23,6 +23,7 @@ use Rattle.account.specs.Rows.{contract, underlying}
 use Rattle.account.specs.Sound.{contractAllowed, underlyingAllowed}
 use Rattle.account.specs.Steps.{refusalOf}
 use Rattle.account.specs.Verdicts.{_else_then_, numberIn}
+use Rattle.account.specs.declared.judged.Verdict.{Verdict}
 use Rattle.account.specs.declared.judged.Verdict.the-variants.{Accepted}
 use Rattle.account.specs.declared.tables.Tables.{Tables}
 use Rattle.account.proofs.InOrder.{Adds, Told, accepted, both, entry-number, next, one, some-wrong}
@@ -31,6 +32,7 @@ use Rattle.set_up.specs.Stages.{bySetUp, contractVerdict, inPlace, openingVerdi
 use Rattle.set_up.specs.declared.stages.Book.{Book}
 use Rattle.set_up.specs.declared.stages.Stage.{Stage}
 use Rattle.set_up.specs.declared.stages.Stage.the-variants.{Underlyings, Contracts, Entries}
+use Rattle.set_up.proofs.Entering.{each-entry, entry-verdict, no-set-up, verdict}
 use Rattle.demands.specs.Each.{Each, OneOf, runNumbers}
 use Rattle.demands.specs.InOrder.{contractTests, due, listTests, newContractTests, newUnderlyingTests, openingTests, recordTests, underlyingTests, wrong}
 use Rattle.demands.proofs.Answers.PaperNumbers.{first-among}
@@ -93,23 +95,23 @@ module _ (b : Book) (f : Figures) where
   entry-told : (entry : Entry) → Told (refusalOf (b .tables) (b .account) entry f) (entryTests (b .tables) (b .account) entry f)
   entry-told entry = record { number = entry-number (b .tables) (b .account) entry f }
 
-  values-told : (entry : Entry)
-      → Told (bySetUp (underlyingVerdict (b .tables)) (contractVerdict (b .tables)) openingVerdict (refusalOf (b .tables) (b .account) entry f) entry)
-      (bySetUp (newUnderlyingTests (b .tables)) (newContractTests (b .tables)) openingTests (entryTests (b .tables) (b .account) entry f) entry)
-  values-told (Entry·of.Deposit amount) = entry-told (Entry·of.Deposit amount)
-  values-told (Entry·of.Withdraw amount) = entry-told (Entry·of.Withdraw amount)
-  values-told (Entry·of.Lock u units) = entry-told (Entry·of.Lock u units)
-  values-told (Entry·of.Unlock u units) = entry-told (Entry·of.Unlock u units)
-  values-told (Entry·of.Order o) = entry-told (Entry·of.Order o)
-  values-told (Entry·of.Fill fill) = entry-told (Entry·of.Fill fill)
-  values-told (Entry·of.Cancel number) = entry-told (Entry·of.Cancel number)
-  values-told (Entry·of.DayEnd n m) = entry-told (Entry·of.DayEnd n m)
-  values-told (Entry·of.Underlying row) = underlying-told row (b .tables)
-  values-told (Entry·of.Contract row) = contract-told row (b .tables)
-  values-told (Entry·of.Opening cash) = opening-told cash
+  -- the values of a record in its place
+  values : Entry → List (Bool × ℕ)
+  values entry = bySetUp (newUnderlyingTests (b .tables)) (newContractTests (b .tables)) openingTests (entryTests (b .tables) (b .account) entry f) entry
+
+  values-told : (entry : Entry) → Told (verdict b f entry) (values entry)
+  unfolding values
+  values-told =
+      each-entry (λ entry. Told (verdict b f entry) (values entry))
+      (λ entry few.
+      let same = no-set-up (newUnderlyingTests (b .tables)) (newContractTests (b .tables)) openingTests (entryTests (b .tables) (b .account) entry f) entry few in
+      subst (λ (both : Verdict × List (Bool × ℕ)). Told (both .0) (both .1)) (λ i. (sym (entry-verdict b f entry few) i, sym same i)) (entry-told entry))
+      (λ row. underlying-told row (b .tables))
+      (λ row. contract-told row (b .tables))
+      opening-told
 
   pub record-number : (entry : Entry) → numberIn (recordVerdict b entry f) ≡ first (recordTests b entry f)
-  unfolding recordVerdict
+  unfolding recordVerdict values
   record-number entry = next (one (inPlace (b .stage) (codeOf (kindOf entry))) OutOfPlace (placed (kindOf entry) (b .stage))) (values-told entry) .number
 
   -- each test of its list, and so its verdict, has one of the numbers that a run answers with

@@ -21,9 +21,10 @@ use Rattle.account.specs.Verdicts.{numberIn}
 use Rattle.account.specs.declared.judged.Verdict.{Verdict}
 use Rattle.account.specs.declared.judged.Verdict.the-variants.{Accepted, Refused}
 use Rattle.account.specs.declared.tables.Tables.{Tables}
-use Rattle.set_up.specs.Stages.{bookAfter, entered, enteredAs, opened, recordVerdict}
+use Rattle.set_up.specs.Stages.{entered, opened}
 use Rattle.set_up.specs.declared.stages.Book.{Book}
 use Rattle.set_up.specs.declared.stages.Entered.{Entered}
+use Rattle.set_up.proofs.Entering.{entered-verdict}
 use Rattle.desk.specs.Runs.{Ran, _before_, answerBy, answerTo, availableIn, ended, listBy, runFrom}
 use Rattle.desk.specs.declared.Run.{Run}
 use Rattle.desk.proofs.Started.{Leaves}
@@ -36,18 +37,14 @@ use Rattle.demands.proofs.Answers.PaperNumbers.{first-among}
 use Rattle.demands.proofs.Answers.RecordsTold.{read-number}
 
 answer-number : (b : Book) (s : List ℕ) (place : ℕ) → OneOf runNumbers (answerTo b (readAt s place) .number)
-unfolding answerTo entered
+unfolding answerTo
 answer-number b s place = go (readAt s place .answer) refl
   where
     f : Figures
     f = readAt s place .figures
 
-    judged : (v : Verdict) (entry : Entry) → enteredAs v b (bookAfter b entry f) .verdict ≡ v
-    judged Accepted entry = refl
-    judged (Refused why) entry = refl
-
     go : (answer : Answer) → readAt s place .answer ≡ answer → OneOf runNumbers (answerBy b f answer .number)
-    go (Reading·of.Found entry len) e = subst (λ (v : Verdict). OneOf runNumbers (numberIn v)) (sym (judged (recordVerdict b entry f) entry)) (verdict-among b f entry)
+    go (Reading·of.Found entry len) e = subst (λ (v : Verdict). OneOf runNumbers (numberIn v)) (sym (entered-verdict b entry f)) (verdict-among b f entry)
     go (Reading·of.Refused why p) e =
         let rest = drop place s in
         let said = sym (read-number s place) ∙ ap reading.numberIn e in

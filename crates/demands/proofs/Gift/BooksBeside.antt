@@ -15,7 +15,7 @@ use Rattle.entries.specs.Entries.{kindOf}
 use Rattle.entries.specs.Table.{codeOf}
 use Rattle.entries.specs.declared.entry.Contract as Contracts·of
 use Rattle.entries.specs.declared.entry.Entry.{Entry}
-use Rattle.entries.specs.declared.entry.Entry.the-variants.{Deposit, Withdraw, Lock, Unlock, Order, Fill, Cancel, DayEnd, Underlying, Contract, Opening}
+use Rattle.entries.specs.declared.entry.Entry.the-variants.{Underlying, Contract, Opening}
 use Rattle.entries.specs.declared.entry.Figures.{Figures}
 use Rattle.entries.specs.declared.entry.Underlying as Underlyings·of
 use Rattle.account.specs.Rows.{noUnderlying}
@@ -24,14 +24,14 @@ use Rattle.account.specs.Steps.{accountAfter, refusalOf}
 use Rattle.account.specs.Verdicts.{_else_then_}
 use Rattle.account.specs.declared.account.Account.{Account}
 use Rattle.account.specs.declared.judged.Verdict.{Verdict}
-use Rattle.account.specs.declared.judged.Verdict.the-variants.{Accepted, Refused}
+use Rattle.account.specs.declared.judged.Verdict.the-variants.{Accepted}
 use Rattle.account.proofs.Passed.{went-on}
 use Rattle.set_up.specs.Stages.{bookAfter, contractVerdict, entered, enteredAs, inPlace, recordVerdict, underlyingVerdict, withEntry}
 use Rattle.set_up.specs.declared.stages.Book.{Book}
 use Rattle.set_up.specs.declared.stages.Entered.{Entered}
 use Rattle.set_up.specs.declared.stages.Stage.{Stage}
 use Rattle.set_up.specs.declared.stages.Stage.the-variants.{Underlyings, Contracts, Entries}
-use Rattle.set_up.proofs.Entering.{open-stage, verdict}
+use Rattle.set_up.proofs.Entering.{after-entry, each-entry, entered-verdict, entry-verdict, open-stage, verdict}
 use Rattle.demands.specs.Gift.{RoomFor, Roomier, RoomierTables, XMore, richer}
 use Rattle.demands.specs.GiftRuns.{Alike, BookBeside, higher, more, same}
 use Rattle.demands.proofs.Gift.EntriesToo.{entry-too}
@@ -83,14 +83,6 @@ unopened X Entries kind a many placed = absurd (omega (arith, inside kind (1 to 
 
 -- an accepted record goes on to the book after it
 module _ (b : Book) (entry : Entry) (f : Figures) where
-  pub was-accepted : entered b entry f .verdict ≡ Accepted → recordVerdict b entry f ≡ Accepted
-  unfolding entered
-  was-accepted = go (recordVerdict b entry f)
-    where
-      go : (v : Verdict) → enteredAs v b (bookAfter b entry f) .verdict ≡ Accepted → v ≡ Accepted
-      go Accepted e = e
-      go (Refused why) e = e
-
   pub when-accepted : recordVerdict b entry f ≡ Accepted → entered b entry f ≡ record { verdict = Accepted; book = bookAfter b entry f }
   unfolding entered
   when-accepted e = ap (λ (v : Verdict). enteredAs v b (bookAfter b entry f)) e
@@ -180,18 +172,15 @@ module _ (X : ℕ) (b b' : Book) (f : Figures) (so : Abreast X b b') where
   same-onward : (entry : Entry) → codeOf (kindOf entry) < 18 → inPlace (b .stage) (codeOf (kindOf entry)) ≡ true → verdict b f entry ≡ Accepted
       → Room X (bookAfter b entry f) → Onward X b b' f entry entry
   unfolding bookAfter
-  same-onward (Deposit amount) kind placed e room = entry-onward (Deposit amount) (omega arith) placed e (room refl)
-  same-onward (Withdraw amount) kind placed e room = entry-onward (Withdraw amount) (omega arith) placed e (room refl)
-  same-onward (Lock u units) kind placed e room = entry-onward (Lock u units) (omega arith) placed e (room refl)
-  same-onward (Unlock u units) kind placed e room = entry-onward (Unlock u units) (omega arith) placed e (room refl)
-  same-onward (Order o) kind placed e room = entry-onward (Order o) (omega arith) placed e (room refl)
-  same-onward (Fill fill) kind placed e room = entry-onward (Fill fill) (omega arith) placed e (room refl)
-  same-onward (Cancel number) kind placed e room = entry-onward (Cancel number) (omega arith) placed e (room refl)
-  same-onward (DayEnd n m) kind placed e room = entry-onward (DayEnd n m) (omega arith) placed e (room refl)
-  same-onward (Underlying row) kind placed e room =
-      underlying-onward row row (same-row row) placed e (first-holds (underlyingAllowed row) (ltb (b .tables .m) 8) (went-on _ OutOfRange Accepted e .0))
-  same-onward (Contract row) kind placed e room = contract-onward row placed e
-  same-onward (Opening cash) kind placed e room = absurd (omega arith)
+  same-onward =
+      each-entry (λ entry. codeOf (kindOf entry) < 18 → inPlace (b .stage) (codeOf (kindOf entry)) ≡ true → verdict b f entry ≡ Accepted → Room X (bookAfter b entry f) → Onward X b b' f entry entry)
+      (λ entry few kind placed e room.
+      let (here, there) : (bookAfter b entry f ≡ withEntry b entry f) × (bookAfter b' entry f ≡ withEntry b' entry f) = (after-entry b f entry few, after-entry b' f entry few) in
+      let on = entry-onward entry few placed (sym (entry-verdict b f entry few) ∙ e) (subst (Room X) here room refl) in
+      (entry-verdict b' f entry few ∙ on .0, subst (λ (books : Book × Book). Abreast X (books .0) (books .1)) (λ i. (sym here i, sym there i)) (on .1)))
+      (λ row kind placed e room. underlying-onward row row (same-row row) placed e (first-holds (underlyingAllowed row) (ltb (b .tables .m) 8) (went-on _ OutOfRange Accepted e .0)))
+      (λ row kind placed e room. contract-onward row placed e)
+      (λ cash kind placed e room. absurd (omega arith))
 
   alike-onward : {entry entry' : Entry} → Alike X entry entry' → inPlace (b .stage) (codeOf (kindOf entry)) ≡ true → verdict b f entry ≡ Accepted
       → Room X (bookAfter b entry f) → Onward X b b' f entry entry'
@@ -204,7 +193,7 @@ module _ (X : ℕ) (b b' : Book) (f : Figures) (so : Abreast X b b') where
       → (entered b' entry' f .verdict ≡ Accepted) × Abreast X (entered b entry f .book) (entered b' entry' f .book)
   unfolding recordVerdict
   entered-onward entry entry' alike accepted room =
-      let first = was-accepted b entry f accepted in
+      let first = sym (entered-verdict b entry f) ∙ accepted in
       let passed = went-on (inPlace (b .stage) (codeOf (kindOf entry))) OutOfPlace _ first in
       let on = alike-onward alike (passed .0) (passed .1) (subst (λ (after : Entered). Room X (after .book)) (when-accepted b entry f first) room) in
       let placed : inPlace (b' .stage) (codeOf (kindOf entry')) ≡ true = rw (so .stage, same-kind alike) (passed .0) in

@@ -13,7 +13,7 @@ use Rattle.terms.proofs.Ranges.{both-hold, first-holds, inside, within}
 use Rattle.entries.specs.Entries.{kindOf}
 use Rattle.entries.specs.Table.{codeOf}
 use Rattle.entries.specs.declared.entry.Entry.{Entry}
-use Rattle.entries.specs.declared.entry.Entry.the-variants.{Deposit, Withdraw, Lock, Unlock, Order, Fill, Cancel, DayEnd, Underlying, Contract, Opening}
+use Rattle.entries.specs.declared.entry.Entry.the-variants.{Underlying}
 use Rattle.entries.specs.declared.entry.Figures.{Figures}
 use Rattle.entries.specs.declared.entry.Underlying as Underlyings·of
 use Rattle.reading.specs.Reading.{readAt}
@@ -29,15 +29,16 @@ use Rattle.account.proofs.Bounds.{four}
 use Rattle.account.proofs.Listed.{all-pass}
 use Rattle.account.proofs.Passed.{went-on}
 use Rattle.rows.specs.Given.{listVerdict, tablesAllowed}
-use Rattle.set_up.specs.Stages.{bookAfter, entered, inPlace, opened, recordVerdict}
+use Rattle.set_up.specs.Stages.{entered, inPlace, opened, recordVerdict}
 use Rattle.set_up.specs.declared.stages.Book.{Book}
 use Rattle.set_up.specs.declared.stages.Entered.{Entered}
 use Rattle.set_up.specs.declared.stages.Stage.{Stage}
 use Rattle.set_up.specs.declared.stages.Stage.the-variants.{Entries}
+use Rattle.set_up.proofs.Entering.{after-entry, entered-verdict}
 use Rattle.desk.specs.Runs.{Ran, listBy, listRun, runFrom}
 use Rattle.desk.proofs.Places.{few-answers}
 use Rattle.demands.specs.GiftRuns.{GivenBeside, same}
-use Rattle.demands.proofs.Gift.BooksBeside.{Abreast, Room, both-pass, was-accepted, when-accepted}
+use Rattle.demands.proofs.Gift.BooksBeside.{Abreast, Room, both-pass, when-accepted}
 use Rattle.demands.proofs.Gift.Relisted.{relisted, roomier-relisted}
 use Rattle.demands.proofs.Gift.RunsBeside.{AllAccepted, InStep, ReadsOn, both-so, together}
 
@@ -69,28 +70,14 @@ opened-abreast X t t' cash cash' beside =
     }
 
 -- set-up is out of its place in an open book, and an entry leaves it open
-entry-opens : (b : Book) (f : Figures) (entry : Entry) → codeOf (kindOf entry) ≤ 8 → bookAfter b entry f .stage ≡ Entries
-unfolding bookAfter
-entry-opens b f (Deposit amount) few = refl
-entry-opens b f (Withdraw amount) few = refl
-entry-opens b f (Lock u units) few = refl
-entry-opens b f (Unlock u units) few = refl
-entry-opens b f (Order o) few = refl
-entry-opens b f (Fill fill) few = refl
-entry-opens b f (Cancel number) few = refl
-entry-opens b f (DayEnd n m) few = refl
-entry-opens b f (Underlying row) few = absurd (omega arith)
-entry-opens b f (Contract row) few = absurd (omega arith)
-entry-opens b f (Opening cash) few = absurd (omega arith)
-
 still-open : (b : Book) (f : Figures) (entry : Entry) → b .stage ≡ Entries → entered b entry f .verdict ≡ Accepted → (codeOf (kindOf entry) ≤ 8) × (entered b entry f .book .stage ≡ Entries)
 unfolding recordVerdict
 still-open b f entry stands accepted =
     let kind = codeOf (kindOf entry) in
-    let passed = was-accepted b entry f accepted in
+    let passed = sym (entered-verdict b entry f) ∙ accepted in
     let placed = went-on (inPlace (b .stage) kind) OutOfPlace _ passed .0 in
     let few = inside kind (1 to 8) (subst (λ (stage : Stage). inPlace stage kind ≡ true) stands placed) .1 in
-    (few, ap (λ (after : Entered). after .book .stage) (when-accepted b entry f passed) ∙ entry-opens b f entry few)
+    (few, ap (λ (after : Entered). after .book .stage) (when-accepted b entry f passed) ∙ ap (λ (after : Book). after .stage) (after-entry b f entry few))
 
 same-reads : (X : ℕ) (s s' : List ℕ) → s' ≡ s → ReadsOn X s s' (λ place b. b .stage ≡ Entries)
 same-reads X s s' bytes place b entry len stands there e accepted =
