@@ -10,7 +10,7 @@ use Rattle.set_up.specs.Sound.{SoundBook}
 use Rattle.set_up.specs.declared.stages.Book.{Book}
 use Rattle.set_up.proofs.EnteredSound.{entered-sound}
 use Rattle.desk.specs.Runs.{answerBy, answerTo}
-use Rattle.desk.proofs.Within.{Within}
+use Rattle.reading.proofs.Within.{Within}
 
 module _ (b : Book) (reading : Reading) where
   pub answer-sound : SoundBook b → SoundBook (answerTo b reading .book)

@@ -13,7 +13,7 @@ use Rattle.desk.specs.Runs.{Ran, _before_, answerTo, ended, runFrom}
 use Rattle.desk.specs.declared.answer.Answered.{Answered}
 use Rattle.desk.proofs.Answered.{answer-eight}
 use Rattle.desk.proofs.Turns.{no-byte, rest, turn}
-use Rattle.desk.proofs.Within.{read-within}
+use Rattle.reading.proofs.Within.{read-within}
 
 -- what follows an answer is the same where what follows one that does not end the run is
 same-rest : (s : List ℕ) (place : ℕ) (places others : ℕ) (answer : Answered)

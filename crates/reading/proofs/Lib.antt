@@ -1,2 +1,3 @@
--- Laws about codes that are read, which the proofs of functions and the theorems cite.
+-- Laws that the proofs of functions and the theorems cite: codes that are read, and how long a record that was read is.
+pub mod Within
 pub mod Words

@@ -28,7 +28,7 @@ use Rattle.set_up.proofs.Entering.{entered-verdict}
 use Rattle.desk.specs.Runs.{Ran, _before_, answerBy, answerTo, availableIn, ended, listBy, runFrom}
 use Rattle.desk.specs.declared.Run.{Run}
 use Rattle.desk.proofs.Started.{Leaves}
-use Rattle.desk.proofs.Within.{Within, read-within}
+use Rattle.reading.proofs.Within.{Within, read-within}
 use Rattle.demands.specs.Each.{Each, OneOf, runNumbers}
 use Rattle.demands.specs.InOrder.{readingTests}
 use Rattle.demands.proofs.Answers.EntriesTold.{verdict-among}

@@ -13,7 +13,7 @@ use Rattle.set_up.specs.Stages.{entered, newBook}
 use Rattle.set_up.specs.declared.stages.Book.{Book}
 use Rattle.desk.specs.Runs.{Ran, runFrom}
 use Rattle.desk.proofs.Turns.{no-byte}
-use Rattle.desk.proofs.Within.{Within, read-within}
+use Rattle.reading.proofs.Within.{Within, read-within}
 use Rattle.writing.specs.Writing.{lengthFor, recordOf}
 use Rattle.demands.specs.Each.{Each, EachPair}
 use Rattle.demands.specs.GiftRuns.{Alike, AlikeRecord, BooksAlike, ReadAlike, higher, more, same}

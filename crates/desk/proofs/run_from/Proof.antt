@@ -11,7 +11,7 @@ use mir.ValLaws.{toZ-ofZ}
 use Rattle.set_up.specs.Sound.{SoundBook}
 use Rattle.desk.specs.Runs.{answerTo, placesIn, runFrom}
 use Rattle.desk.proofs.Answered.{answer-sound, answer-within}
-use Rattle.desk.proofs.Within.{Within, read-within}
+use Rattle.reading.proofs.Within.{Within, read-within}
 use Rattle.desk.proofs.Turns.{Stands, at-end, done-so, ended-so, goes-on, goes-so, nothing-yet, numbers-left, rest, same-lengths, stops, sums-left, turned}
 use Rattle.desk.proofs.run_from.Statement.{statement}
 use Rattle.desk.proofs.run_from.Tie as tie

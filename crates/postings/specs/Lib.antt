@@ -1,0 +1,2 @@
+-- What each posting leaves of the money sheet.
+pub mod Postings

@@ -1,0 +1,2 @@
+-- What a reader answers, and where it stands afterwards.
+pub mod Reader

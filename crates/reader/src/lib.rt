@@ -1,0 +1,60 @@
+// A reader: the lent bytes, and the place of the next record in them.
+use reading::Answer;
+use reading::Reading;
+use reading::read;
+ghost use mathlib.Core.Path.{_≡_};
+ghost use Rattle.reading.specs.Reading.{readAt};
+ghost use Rattle.reader.specs.Reader.{foundAt, movedOn};
+
+pub struct Reader<'a> {
+    pub bytes: &'a [u8],
+    pub place: usize,
+}
+
+// What stands at a place, and the place of the next record.
+pub struct Read {
+    pub reading: Reading,
+    pub next: usize,
+}
+
+// The work, on the bytes and the number: a record that is read is passed, one that is refused is not.
+fn find(bytes: &[u8], place: usize) -> Read
+    ensures { λ r. ⌜ r ≡ foundAt (now (bytes .entry)) place ⌝ }
+{
+    let reading = read(bytes, place);
+    let answer = reading.answer;
+    let next = match answer {
+        Answer::Found { entry: _, length } => place + length,
+        Answer::Refused { why: _, place: _ } => place,
+    };
+    Read { reading, next }
+}
+
+// A reader stands at the first record.
+pub fn new<'a>(bytes: &'a [u8]) -> Reader<'a>
+    ensures { λ r. ⌜ (r .bytes ≡ bytes .entry) × (r .place ≡ 0) ⌝ }
+{
+    Reader { bytes, place: 0 }
+}
+
+// The next record's answer. The reader is lent, and stands behind the record afterwards, or where it stood if it was refused.
+pub fn next<'s, 'a>(reader: &'s mut Reader<'a>) -> Reading
+    ensures answer { λ r. ⌜ r ≡ readAt (now (now (reader .entry) .bytes)) (now (reader .entry) .place) ⌝ }
+    ensures moved { λ r. ⌜ now (reader .exit) ≡ movedOn (now (reader .entry)) ⌝ }
+{
+    let found = find(reader.bytes, reader.place);
+    reader.place = found.next;
+    found.reading
+}
+
+// Bytes and a place in, a reader lent to `next`, the answer and the next place out: the one function that makes a reader of its own.
+pub fn read_next(bytes: &[u8], place: usize) -> Read
+    ensures { λ r. ⌜ r ≡ foundAt (now (bytes .entry)) place ⌝ }
+{
+    let mut reader = Reader { bytes, place };
+    let reading = next(&mut reader);
+    Read {
+        reading,
+        next: reader.place,
+    }
+}
