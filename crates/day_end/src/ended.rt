@@ -2,9 +2,10 @@
 use account::Account;
 use account::Holding;
 use account::Resting;
-use account::Sheet;
 use account::Tables;
 use money::margin_one;
+use postings::Posting;
+use postings::posted;
 use rules::net;
 use terms::Contracts;
 use terms::Position;
@@ -28,12 +29,7 @@ pub(crate) fn ended(tables: Tables, account: Account) -> Account
     let positions = net_all(before);
     let sheet = account.sheet;
     Account {
-        sheet: Sheet {
-            cash: sheet.cash + sheet.premium,
-            premium: 0,
-            holds: 0,
-            margin: margin_in(tables, positions),
-        },
+        sheet: posted(sheet, Posting::DayEnd(margin_in(tables, positions))),
         positions,
         orders: [Resting::free(); terms::PLACES],
         holdings: covering(tables, positions),

@@ -3,71 +3,54 @@ use account::Named;
 use account::Resting;
 use account::Sheet;
 use entries::Fill;
+use postings::Posting;
+use postings::posted;
 use terms::Contracts;
 use terms::OrderKind;
 use terms::Position;
 use terms::Side;
 ghost use mathlib.Core.Path.{_≡_};
-ghost use mathlib.Core.Bool.{not};
-ghost use Prim.Native.Nat.{_+_, _^_, _≤_, _<_};
-ghost use Rattle.terms.specs.declared.kind.Side.the-variants.{Short};
-ghost use Rattle.account.specs.Fills.{cashAfter, marginAfter, moved, orderAfter, premiumAfter, sheetAfter, shifted};
+ghost use Prim.Native.Nat.{_≤_};
+ghost use Rattle.account.specs.Fills.{moved, orderAfter, sheetAfter, shifted};
 ghost use Rattle.account.specs.Totals.{countOf};
+ghost use Rattle.fills.specs.Posts.{marginPosting, premiumPosting};
 ghost use Rattle.fills.specs.Takes.{Exact, Shifts};
 
-// The money, the share of the hold, the margin.
+// Its share of the hold is freed, the premium is paid or received, and margin moves with short.
 pub(crate) fn sheet_after(named: Named, kind: OrderKind, fill: Fill, sum: u64) -> Sheet
     requires { ⌜ Exact named fill kind sum ⌝ }
     ensures { λ r. ⌜ r ≡ sheetAfter named fill kind ⌝ }
 {
     let q = fill.quantity as u64;
-    let freed = q * named.hold;
-    let asked = q * named.margin;
     let sheet = named.sheet;
     let side = kind.moves();
-    let buys = kind.buys();
-    Sheet {
-        cash: cash_after(side, buys, sheet.cash, sum),
-        premium: premium_after(side, buys, sheet.premium, sum),
-        holds: sheet.holds - freed,
-        margin: margin_after(side, kind.opens(), sheet.margin, asked),
+    let freed = posted(sheet, Posting::HoldFreed(q * named.hold));
+    let paid = posted(freed, premium_posting(side, kind.buys(), sum));
+    match side {
+        Side::Long => paid,
+        Side::Short => posted(paid, margin_posting(kind.opens(), q * named.margin)),
+        Side::Covered => paid,
     }
 }
 
 // Buys pay from cash; of the sells a covered open alone receives no cash.
-fn cash_after(side: Side, buys: bool, cash: u64, sum: u64) -> u64
-    requires { ⌜ Shifts 64 (not buys) cash sum ⌝ }
-    ensures { λ r. ⌜ r ≡ cashAfter side buys cash sum ⌝ }
+fn premium_posting(side: Side, buys: bool, sum: u64) -> Posting
+    ensures { λ r. ⌜ r ≡ premiumPosting side buys sum ⌝ }
 {
+    if buys {
+        return Posting::CashOut(sum);
+    }
     match side {
-        Side::Long => shifted(!buys, cash, sum),
-        Side::Short => shifted(!buys, cash, sum),
-        Side::Covered => if buys { cash - sum } else { cash },
+        Side::Long => Posting::CashIn(sum),
+        Side::Short => Posting::CashIn(sum),
+        Side::Covered => Posting::CoveredPremium(sum),
     }
 }
 
-// It receives covered premium.
-fn premium_after(side: Side, buys: bool, premium: u64, sum: u64) -> u64
-    requires { ⌜ premium + sum < 2 ^ 64 ⌝ }
-    ensures { λ r. ⌜ r ≡ premiumAfter side buys premium sum ⌝ }
+fn margin_posting(opens: bool, sum: u64) -> Posting
+    ensures { λ r. ⌜ r ≡ marginPosting opens sum ⌝ }
 {
-    match side {
-        Side::Long => premium,
-        Side::Short => premium,
-        Side::Covered => if buys { premium } else { premium + sum },
-    }
-}
-
-// Margin moves with short alone.
-fn margin_after(side: Side, opens: bool, margin: u64, sum: u64) -> u64
-    requires { ⌜ (side ≡ Short → Shifts 64 opens margin sum) ⌝ }
-    ensures { λ r. ⌜ r ≡ marginAfter side opens margin sum ⌝ }
-{
-    match side {
-        Side::Long => margin,
-        Side::Short => shifted(opens, margin, sum),
-        Side::Covered => margin,
-    }
+    if opens { Posting::MarginTaken(sum) } else { Posting::MarginFreed(sum) }
 }
 
 fn shifted(up: bool, x: u64, by: u64) -> u64

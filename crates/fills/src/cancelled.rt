@@ -7,6 +7,8 @@ use account::Named;
 use account::Resting;
 use account::Tables;
 use account::counted;
+use postings::Posting;
+use postings::posted;
 use resting::Found;
 use resting::find;
 use terms::Contracts;
@@ -37,10 +39,10 @@ fn change(named: Named) -> Change
     let locked = before.locked;
     let own = counted(left, order.kind == 1);
     let bought = Contracts((before.bought.0 as u64 - own) as u32);
-    let mut sheet = named.sheet;
-    sheet.holds = sheet.holds - left * named.hold;
+    let sheet = named.sheet;
+    let freed = posted(sheet, Posting::HoldFreed(left * named.hold));
     Change::without_position(
-        sheet,
+        freed,
         named.place,
         Resting::free(),
         named.underlying as usize,

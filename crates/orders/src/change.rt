@@ -5,6 +5,8 @@ use account::Holding;
 use account::Resting;
 use account::counted;
 use entries::Order;
+use postings::Posting;
+use postings::posted;
 use terms::Contracts;
 ghost use mathlib.Core.Path.{_≡_};
 ghost use Prim.Native.Nat.{_+_, _^_, _<_};
@@ -20,8 +22,8 @@ pub(crate) fn change(facts: Facts, order: Order) -> Change
     let locked = before.locked;
     let own = counted(order.quantity as u64, code == 1);
     let bought = Contracts((before.bought.0 as u64 + own) as u32);
-    let mut sheet = facts.sheet;
-    sheet.holds = sheet.holds + facts.hold;
+    let sheet = facts.sheet;
+    let held = posted(sheet, Posting::HoldTaken(facts.hold));
     let rested = Resting {
         number: order.number,
         contract: order.contract,
@@ -30,7 +32,7 @@ pub(crate) fn change(facts: Facts, order: Order) -> Change
         price: order.price,
     };
     Change::without_position(
-        sheet,
+        held,
         facts.place,
         rested,
         facts.underlying as usize,

@@ -4,6 +4,8 @@ use account::Decision;
 use account::Sheet;
 use money::available;
 use money::within;
+use postings::Posting;
+use postings::posted;
 use terms::Measure;
 use terms::Refusal;
 ghost use mathlib.Core.Path.{_≡_};
@@ -21,8 +23,7 @@ pub fn deposit(sheet: Sheet, last: u32, amount: u64) -> Decision
     if !Measure::Money.allows(sheet.cash + sheet.premium + amount) {
         return Decision::Refused(Refusal::CeilingPassed);
     }
-    let mut after = sheet;
-    after.cash = sheet.cash + amount;
+    let after = posted(sheet, Posting::CashIn(amount));
     Decision::Changes(Change::of_sheet(after, last))
 }
 
@@ -36,7 +37,6 @@ pub fn withdraw(sheet: Sheet, last: u32, amount: u64) -> Decision
     if !within(amount, available(sheet)) {
         return Decision::Refused(Refusal::AvailablePassed);
     }
-    let mut after = sheet;
-    after.cash = sheet.cash - amount;
+    let after = posted(sheet, Posting::CashOut(amount));
     Decision::Changes(Change::of_sheet(after, last))
 }

@@ -15,8 +15,11 @@ use Rattle.account.specs.Totals.{coveredUnits}
 use Rattle.account.specs.declared.account.Account.{Account}
 use Rattle.account.specs.declared.account.Holding.{Holding}
 use Rattle.account.specs.declared.account.Resting.{Resting}
+use Rattle.account.specs.declared.account.Sheet.{Sheet}
 use Rattle.account.specs.declared.tables.Tables.{Tables}
 use Rattle.account.proofs.DayEndSound.{holding-after}
+use Rattle.postings.specs.Postings.{posted}
+use Rattle.postings.specs.declared.Posting.the-variants.{DayEnd}
 use Rattle.day_end.specs.Passes.{Summed, ofUnits, marginTo, unitsTo, holdingsTo}
 use Rattle.day_end.proofs.Listing.{listed-is}
 use Rattle.day_end.proofs.Summed.{positions-summed}
@@ -47,9 +50,10 @@ module _ (t : Tables) (a : Account) where
     summed : (ps : List Position) → ps ≡ map netted (a .positions) → Summed t ps
     summed ps e = subst (Summed t) (positions-after ∙ sym e) (positions-summed t (dayEnded t a) sound)
 
-  module _ (ps : List Position) (margin : ℕ) (holdings : List Holding) (positioned : ps ≡ map netted (a .positions)) (worked : margin ≡ marginTo t ps (t .n)) (covered : holdings ≡ holdingsTo t ps (t .n)) where
+  module _ (ps : List Position) (margin : ℕ) (sheet : Sheet) (holdings : List Holding) (positioned : ps ≡ map netted (a .positions)) (worked : margin ≡ marginTo t ps (t .n)) (joined : sheet ≡ posted (a .sheet) (DayEnd margin))
+      (covered : holdings ≡ holdingsTo t ps (t .n)) where
     put-together : (empty : Resting) → empty ≡ free
-        → record { sheet = record { cash = a .sheet .cash + a .sheet .premium; premium = 0; holds = 0; margin = margin }; positions = ps; orders = replicate 32 empty; holdings = holdings; last = a .last }
+        → record { sheet = sheet; positions = ps; orders = replicate 32 empty; holdings = holdings; last = a .last }
         ≡ dayEnded t a
     unfolding dayEnded unitsReleased dailyZero premiumJoined marginAfresh positionsNetted ordersCancelled marginIn marginTo
     put-together empty none =
@@ -57,30 +61,28 @@ module _ (t : Tables) (a : Account) where
         let covered-netted = covered ∙ ap (λ (ps : List Position). holdingsTo t ps (t .n)) positioned ∙ sym holdings-after in
         λ i.
         record {
-          sheet = record { cash = a .sheet .cash + a .sheet .premium; premium = 0; holds = 0; margin = worked-netted i };
+          sheet = (joined ∙ ap (λ (sum : ℕ). posted (a .sheet) (DayEnd sum)) worked-netted) i;
           positions = positioned i;
           orders = replicate 32 (none i);
           holdings = covered-netted i;
           last = a .last;
         }
 
-add-t6 : tie.Need-add-t6
-add-t6 c = let start = c .before .before .before .before in record { fits = omega (arith, money _ _ (start .pre)) }
-
 returns : tie.Need-returns
 returns c =
-    let margin = c .before .before in
-    let net = margin .before .before .before in
+    let joined = c .before .before in
+    let margin = joined .before in
+    let net = margin .before .before in
     let start = net .before .before in
-    put-together (start .args .tables) (start .args .account) _ _ _ (net .net-all .ensures) (margin .margin-in .ensures) (c .covering .ensures) _ (c .before .free .ensures)
+    put-together (start .args .tables) (start .args .account) _ _ _ _ (net .net-all .ensures) (margin .margin-in .ensures) (joined .posted .ensures) (c .covering .ensures) _ (c .before .free .ensures)
 
 pub ended-spec : {M : Type 1} → statement M
 ended-spec =
     tie.close
     (tie.spec
     (λ c κs. rows _ _ (c .before .pre))
-    add-t6
-    (λ c κs. summed _ _ (c .before .before .before .before .pre) _ (c .before .before .net-all .ensures))
+    (λ c κs. summed _ _ (c .before .before .before .pre) _ (c .before .net-all .ensures))
+    (λ c κs. let start = c .before .before .before .before in omega (arith, money _ _ (start .pre)))
     (λ c κs. search needs)
     (λ c κs. summed _ _ (c .before .before .before .before .before .before .pre) _ (c .before .before .before .before .net-all .ensures))
     returns)

@@ -1,58 +1,129 @@
--- `sheet_after` meets its contract: each part is what the definition says of the kind, and an exact fill has what each asks.
+-- `sheet_after` meets its contract: what its postings leave is what the definition says of the kind, and an exact fill has what each of them needs.
 use mathlib.Core.Path.{_≡_, refl, sym, _∙_}
-use mathlib.Core.Bool.{Bool, not}
-use Prim.Native.Nat.{ℕ, _-_, _*_}
+use mathlib.Core.Bool.{Bool, true, false, not}
+use Prim.Native.Nat.{ℕ, _+_, _-_, _*_, _^_, _<_}
 use native.Mathlib.Omega.{arith}
 use borrow.Author.Needs.{needs}
 use Rattle.terms.specs.Kinds.{movesOf, opensOf, buysOf}
 use Rattle.terms.specs.declared.kind.OrderKind.{OrderKind}
 use Rattle.terms.specs.declared.kind.Side.{Side}
-use Rattle.terms.specs.declared.kind.Side.the-variants.{Short}
+use Rattle.terms.specs.declared.kind.Side.the-variants.{Long, Short, Covered}
 use Rattle.rules.specs.Count.{forCount}
 use Rattle.entries.specs.declared.entry.Fill.{Fill}
 use Rattle.account.specs.Fills.{cashAfter, marginAfter, premiumAfter, sheetAfter}
+use Rattle.account.specs.declared.account.Sheet.{Sheet}
 use Rattle.account.specs.declared.judged.Named.{Named}
+use Rattle.postings.specs.Postings.{Postable, posted}
+use Rattle.postings.specs.declared.Posting.{Posting}
+use Rattle.postings.specs.declared.Posting.the-variants.{HoldFreed}
+use Rattle.fills.specs.Posts.{marginPosting, premiumPosting}
 use Rattle.fills.specs.Takes.{Exact, Shifts}
 use Rattle.fills.proofs.after.sheet_after.Statement.{statement}
 use Rattle.fills.proofs.after.sheet_after.Tie as tie
 
-module _ (f : Named) (fill : Fill) (kind : OrderKind) (sum : ℕ) (exact : Exact f fill kind sum) where
-  cash-shifts : (buys : Bool) → buys ≡ buysOf kind → Shifts 64 (not buys) (f .sheet .cash) sum
-  cash-shifts buys e = rw e (exact .cash)
+-- what each posting needs
+premium-needs : (s : Sheet) (sum : ℕ) (side : Side) (buys : Bool) → Shifts 64 (not buys) (s .cash) sum → s .premium + sum < 2 ^ 64 → Postable s (premiumPosting side buys sum)
+premium-needs s sum side true cash premium = cash .there refl
+premium-needs s sum Long false cash premium = cash .fits
+premium-needs s sum Short false cash premium = cash .fits
+premium-needs s sum Covered false cash premium = premium
 
-  margin-shifts : (side : Side) (opens : Bool) → side ≡ movesOf kind → opens ≡ opensOf kind → side ≡ Short → Shifts 64 opens (f .sheet .margin) (fill .quantity * f .margin)
-  margin-shifts side opens moves e short = rw e (exact .margin (sym moves ∙ short))
+margin-needs : (s : Sheet) (sum : ℕ) (opens : Bool) → Shifts 64 opens (s .margin) sum → Postable s (marginPosting opens sum)
+margin-needs s sum true margin = margin .fits
+margin-needs s sum false margin = margin .there refl
 
-  put-together : (side : Side) (buys opens : Bool) (cash premium margin : ℕ) → side ≡ movesOf kind → buys ≡ buysOf kind → opens ≡ opensOf kind
-      → cash ≡ cashAfter side buys (f .sheet .cash) sum → premium ≡ premiumAfter side buys (f .sheet .premium) sum
-      → margin ≡ marginAfter side opens (f .sheet .margin) (fill .quantity * f .margin)
-      → record { cash = cash; premium = premium; holds = f .sheet .holds - fill .quantity * f .hold; margin = margin } ≡ sheetAfter f fill kind
-  unfolding forCount
-  put-together side buys opens cash premium margin moves pays opening cashes premiums margins =
-      rw (cashes, premiums, margins, moves, pays, opening, exact .paying) refl
+margin-stays : (s : Sheet) (sum : ℕ) (side : Side) (buys : Bool) → posted s (premiumPosting side buys sum) .margin ≡ s .margin
+margin-stays s sum side true = refl
+margin-stays s sum Long false = refl
+margin-stays s sum Short false = refl
+margin-stays s sum Covered false = refl
+
+-- only short asks margin
+abbrev margined : Side → Bool → ℕ → Sheet → Sheet
+margined Long opens sum s = s
+margined Short opens sum s = posted s (marginPosting opens sum)
+margined Covered opens sum s = s
+
+module _ (s : Sheet) (freed paid asked : ℕ) where
+  all-posted : (side : Side) (buys opens : Bool) → margined side opens asked (posted (posted s (HoldFreed freed)) (premiumPosting side buys paid))
+      ≡ record { cash = cashAfter side buys (s .cash) paid; premium = premiumAfter side buys (s .premium) paid; holds = s .holds - freed; margin = marginAfter side opens (s .margin) asked }
+  all-posted Long true opens = refl
+  all-posted Long false opens = refl
+  all-posted Short true true = refl
+  all-posted Short true false = refl
+  all-posted Short false true = refl
+  all-posted Short false false = refl
+  all-posted Covered true opens = refl
+  all-posted Covered false opens = refl
+
+module _ (f : Named) (fill : Fill) (kind : OrderKind) (sum : ℕ) (exact : Exact f fill kind sum) (side : Side) (buys : Bool) (freed : Sheet) (posting : Posting)
+    (moves : side ≡ movesOf kind) (pays : buys ≡ buysOf kind) (frees : freed ≡ posted (f .sheet) (HoldFreed (fill .quantity * f .hold))) (posts : posting ≡ premiumPosting side buys sum) where
+  premium-fits : Postable freed posting
+  premium-fits = rw (posts, frees, pays) (premium-needs _ sum side (buysOf kind) (exact .cash) (exact .premium))
+
+  module _ (paid : Sheet) (pay : paid ≡ posted freed posting) (opens : Bool) (opening : opens ≡ opensOf kind) where
+    margin-fits : (asked : Posting) → side ≡ Short → asked ≡ marginPosting opens (fill .quantity * f .margin) → Postable paid asked
+    margin-fits asked short asks =
+        let stays : paid .margin ≡ f .sheet .margin = rw (pay, posts, frees) (margin-stays _ sum side buys) in
+        rw asks (margin-needs paid (fill .quantity * f .margin) opens (rw (stays, opening) (exact .margin (sym moves ∙ short))))
+
+    -- a sheet that is what the three postings leave
+    so : (after : Sheet) → after ≡ margined side opens (fill .quantity * f .margin) paid → after ≡ sheetAfter f fill kind
+    unfolding forCount
+    so after is =
+        is ∙ rw (pay, posts, frees, all-posted (f .sheet) (fill .quantity * f .hold) sum (fill .quantity * f .margin) side buys opens, moves, pays, opening, exact .paying) refl
+
+-- each arm knows its side, and with it what the last posting is
+returns : tie.Need-returns
+returns c =
+    let paid = c .before .before in
+    let freed = paid .before .before .before in
+    let start = freed .before .before .before .before .before in
+    so _ _ _ _ (start .pre) _ _ _ _ (freed .before .before .moves .ensures) (paid .before .before .buys .ensures) (freed .posted .ensures) (paid .before .premium-posting .ensures) _ (paid .posted2 .ensures) _ refl _ (rw (c .enum-told .given .1) refl)
+
+returns-2 : tie.Need-returns-2
+returns-2 c =
+    let opens = c .before .before .before in
+    let paid = opens .before .before .before in
+    let freed = paid .before .before .before in
+    let start = freed .before .before .before .before .before in
+    so _ _ _ _ (start .pre) _ _ _ _ (freed .before .before .moves .ensures) (paid .before .before .buys .ensures) (freed .posted .ensures) (paid .before .premium-posting .ensures) _ (paid .posted2 .ensures) _ (opens .opens .ensures) _
+    (c .posted3 .ensures ∙ rw (opens .before .enum-told2 .given .1, c .before .margin-posting .ensures) refl)
+
+returns-3 : tie.Need-returns-3
+returns-3 c =
+    let paid = c .before .before in
+    let freed = paid .before .before .before in
+    let start = freed .before .before .before .before .before in
+    so _ _ _ _ (start .pre) _ _ _ _ (freed .before .before .moves .ensures) (paid .before .before .buys .ensures) (freed .posted .ensures) (paid .before .premium-posting .ensures) _ (paid .posted2 .ensures) _ refl _ (rw (c .enum-told3 .given .1) refl)
 
 pub sheet-after-spec : {M : Type 1} → statement M
 sheet-after-spec =
     tie.close
     (tie.spec
     (λ c. search needs)
-    (λ c. let holds = c .before .before .pre .holds .fits in record { fits = omega (arith, holds) })
+    (λ c κs. search needs)
     (λ c. search needs)
+    (λ c κs. c .before .before .before .before .pre .holds .there refl)
     (λ c κs. search needs)
-    (λ c κs. search needs)
-    (λ c κs. cash-shifts _ _ _ _ (c .before .before .before .before .before .before .pre) _ (c .buys .ensures))
-    (λ c κs. search needs)
-    (λ c. c .before .before .before .before .before .before .before .before .before .pre .holds .there refl)
     (λ c κs. search needs)
     (λ c κs.
-    let moves = c .before .before .before .before .before in
-    margin-shifts _ _ _ _ (moves .before .before .before .before .before .pre) _ _ (moves .moves .ensures) (c .opens .ensures))
-    (λ c.
-    let moves = c .before .before .before .before .before .before in
-    put-together _ _ _ _ (moves .before .before .before .before .before .pre) _ _ _ _ _ _
-    (moves .moves .ensures)
-    (c .before .before .before .before .before .buys .ensures)
-    (c .before .opens .ensures)
-    (c .before .before .before .before .cash-after .ensures)
-    (c .before .before .before .premium-after .ensures)
-    (c .margin-after .ensures)))
+    let freed = c .before .before in
+    let start = freed .before .before .before .before .before in
+    premium-fits _ _ _ _ (start .pre) _ _ _ _ (freed .before .before .moves .ensures) (c .before .buys .ensures) (freed .posted .ensures) (c .premium-posting .ensures))
+    (λ c. search needs)
+    (λ c. search needs)
+    (λ c κs. search needs)
+    (λ c. search needs)
+    (λ c κs. search needs)
+    (λ c κs.
+    let opens = c .before .before in
+    let paid = opens .before .before .before in
+    let freed = paid .before .before .before in
+    let start = freed .before .before .before .before .before in
+    margin-fits _ _ _ _ (start .pre) _ _ _ _ (freed .before .before .moves .ensures) (paid .before .before .buys .ensures) (freed .posted .ensures) (paid .before .premium-posting .ensures) _ (paid .posted2 .ensures) _ (opens .opens .ensures) _
+    (opens .before .enum-told2 .given .1) (c .margin-posting .ensures))
+    (λ c. search needs)
+    returns
+    returns-2
+    returns-3)

@@ -10,15 +10,18 @@ use Rattle.account.specs.Rows.{free}
 use Rattle.account.specs.Sums.{_when_}
 use Rattle.account.specs.Totals.{isKind}
 use Rattle.account.specs.declared.account.Resting.{Resting}
+use Rattle.account.specs.declared.account.Sheet.{Sheet}
 use Rattle.account.specs.declared.judged.Change.{Change}
 use Rattle.account.specs.declared.judged.Named.{Named}
+use Rattle.postings.specs.Postings.{posted}
+use Rattle.postings.specs.declared.Posting.the-variants.{HoldFreed}
 use Rattle.fills.proofs.cancelled.change.Statement.{statement}
 use Rattle.fills.proofs.cancelled.change.Tie as tie
 
-built : (f : Named) (place : Resting) (own : ℕ) (after : Change) → place ≡ free → own ≡ (f .order .left .0 when isKind BuyOpen (f .order .kind))
+built : (f : Named) (sheet : Sheet) (place : Resting) (own : ℕ) (after : Change) → sheet ≡ posted (f .sheet) (HoldFreed (f .order .left .0 * f .hold)) → place ≡ free → own ≡ (f .order .left .0 when isKind BuyOpen (f .order .kind))
     → after
     ≡ withoutPosition
-    (record { cash = f .sheet .cash; premium = f .sheet .premium; holds = f .sheet .holds - f .order .left .0 * f .hold; margin = f .sheet .margin })
+    sheet
     (f .place)
     place
     (f .underlying)
@@ -26,7 +29,7 @@ built : (f : Named) (place : Resting) (own : ℕ) (after : Change) → place ≡
     (f .last)
     → after ≡ cancelChange f
 unfolding cancelChange forCount
-built f place own after freed counts changed = changed ∙ rw (freed, counts) refl
+built f sheet place own after posts freed counts changed = changed ∙ rw (posts, freed, counts) refl
 
 pub change-spec : {M : Type 1} → statement M
 change-spec =
@@ -38,11 +41,12 @@ change-spec =
     (λ c. search needs)
     (λ c. search needs)
     (λ c. search needs)
-    (λ c. search needs)
+    (λ c κs. search needs)
     (λ c κs. search needs)
     (λ c. search needs)
     (λ c κs. search needs)
     (λ c.
-    let counted = c .before .before .before .before .before .before .before in
+    let posts = c .before .before .before in
+    let counted = posts .before .before .before .before in
     let start = counted .before .before .before .before .before .before in
-    built (start .args .named) _ _ _ (c .before .before .free .ensures) (counted .counted .ensures) (c .without-position .ensures)))
+    built (start .args .named) _ _ _ _ (posts .posted .ensures) (c .before .before .free .ensures) (counted .counted .ensures) (c .without-position .ensures)))

@@ -12,6 +12,7 @@ use Rattle.account.specs.Changes.{withoutPosition}
 use Rattle.account.specs.Orders.{orderChange, withHold}
 use Rattle.account.specs.Sums.{_when_}
 use Rattle.account.specs.Totals.{isKind}
+use Rattle.account.specs.declared.account.Sheet.{Sheet}
 use Rattle.account.specs.declared.judged.Facts.{Facts}
 use Rattle.orders.proofs.change.change.Statement.{statement}
 use Rattle.orders.proofs.change.change.Tie as tie
@@ -21,15 +22,15 @@ most : (before quantity own : ℕ) (test : Bool) → own ≡ (quantity when test
 most before quantity own true e h = omega (arith, e, h)
 most before quantity own false e h = omega (arith, e, h)
 
-built : (f : Facts) (o : Order) (code own : ℕ) → code ≡ kindCode (o .kind) → own ≡ (o .quantity when isKind BuyOpen code)
-    → withoutPosition (withHold f) (f .place)
+built : (f : Facts) (o : Order) (held : Sheet) (code own : ℕ) → held ≡ withHold f → code ≡ kindCode (o .kind) → own ≡ (o .quantity when isKind BuyOpen code)
+    → withoutPosition held (f .place)
     (record { number = o .number; contract = o .contract; kind = code; left = record { 0 = o .quantity }; price = o .price })
     (f .underlying)
     (record { locked = f .holding .locked; bought = record { 0 = f .holding .bought .0 + own } })
     (o .number)
     ≡ orderChange f o
 unfolding orderChange
-built f o code own coded counted = rw (counted, coded) refl
+built f o held code own posted coded counted = rw (posted, counted, coded) refl
 
 pub change-spec : {M : Type 1} → statement M
 change-spec =
@@ -41,11 +42,12 @@ change-spec =
     (λ c. search needs)
     (λ c. let fit = most _ _ _ (eqb (c .before .before .before .before .before .code .result) 1) (c .before .counted .ensures) (c .before .before .before .before .before .before .pre .1) in record { fits = omega (arith, fit) })
     (λ c. record { fits = most _ _ _ (eqb (c .before .before .before .before .before .code .result) 1) (c .before .counted .ensures) (c .before .before .before .before .before .before .pre .1) })
-    (λ c. search needs)
+    (λ c κs. search needs)
     (λ c. search needs)
     (λ c κs. tt)
     (λ c.
-    let counted = c .before .before .before .before .before .before in
+    let posted = c .before .before in
+    let counted = posted .before .before .before in
     let code = counted .before .before .before .before in
     let args = code .before .args in
-    c .without-position .ensures ∙ built (args .facts) (args .order) _ _ (code .code .ensures) (counted .counted .ensures)))
+    c .without-position .ensures ∙ built (args .facts) (args .order) _ _ _ (posted .posted .ensures) (code .code .ensures) (counted .counted .ensures)))

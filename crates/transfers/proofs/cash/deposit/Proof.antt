@@ -1,5 +1,5 @@
 -- `deposit` meets its contract: its two tests are the definition's, and within the ceiling every sum fits.
-use mathlib.Core.Path.{_≡_, refl, sym, _∙_}
+use mathlib.Core.Path.{_≡_, refl, sym, ap, _∙_}
 use mathlib.Core.Bool.{Bool, true}
 use Prim.Native.Nat.{ℕ, _+_, _≤_}
 use native.Mathlib.Omega.{arith}
@@ -9,6 +9,7 @@ use Rattle.terms.specs.Ranges.{rangeOf, _∈_}
 use Rattle.terms.specs.declared.measure.Measure.the-variants.{Money, Transfer}
 use Rattle.terms.specs.declared.refusal.Refusal.the-variants.{CeilingPassed, OutOfRange}
 use Rattle.terms.proofs.Ranges.{inside}
+use Rattle.account.specs.Changes.{ofSheet}
 use Rattle.account.specs.Transfers.{depositChange, depositVerdict}
 use Rattle.account.specs.Verdicts.{_else_then_}
 use Rattle.account.specs.declared.account.Sheet.{Sheet}
@@ -36,11 +37,11 @@ sum-fits c =
     let amount = most (ranged .before .args .amount) _ (ranged .allows .ensures) (not-false _ (c .before .if1 .left)) in
     record { fits = omega (arith, amount, ranged .before .pre .ceiling) }
 
-cash-fits : tie.Need-add-after
-cash-fits c =
-    let ranged = c .before .before .before .before .before in
-    let amount = most (ranged .before .args .amount) _ (ranged .allows .ensures) (not-false _ (c .before .before .before .before .if1 .left)) in
-    record { fits = omega (arith, amount, ranged .before .pre .ceiling) }
+cash-fits : tie.Need-posted-requires
+cash-fits c κs =
+    let ranged = c .before .before .before .before in
+    let amount = most (ranged .before .args .amount) _ (ranged .allows .ensures) (not-false _ (c .before .before .before .if1 .left)) in
+    omega (arith, amount, ranged .before .pre .ceiling)
 
 returns-3 : tie.Need-returns-3
 unfolding depositChange
@@ -48,7 +49,7 @@ returns-3 c =
     let tested = c .before .before .before in
     let ranged = tested .before .before .before in
     let args = ranged .before .args in
-    both-pass _ _ (two (args .sheet) (args .amount)) _ (ranged .allows .ensures) _ (tested .allows2 .ensures) (not-false _ (tested .before .before .if1 .left)) (not-false _ (c .before .before .if2 .left)) _ (c .of-sheet .ensures)
+    both-pass _ _ (two (args .sheet) (args .amount)) _ (ranged .allows .ensures) _ (tested .allows2 .ensures) (not-false _ (tested .before .before .if1 .left)) (not-false _ (c .before .before .if2 .left)) _ (c .of-sheet .ensures ∙ ap (λ (s : Sheet). ofSheet s (args .last)) (c .before .posted .ensures))
 
 pub deposit-spec : {M : Type 1} → statement M
 deposit-spec =

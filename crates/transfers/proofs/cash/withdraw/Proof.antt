@@ -13,6 +13,7 @@ use mir.ValLaws.{toZ-ofZ}
 use Rattle.terms.specs.Ranges.{rangeOf, _∈_}
 use Rattle.terms.specs.declared.measure.Measure.the-variants.{Transfer}
 use Rattle.terms.specs.declared.refusal.Refusal.the-variants.{AvailablePassed, OutOfRange}
+use Rattle.account.specs.Changes.{ofSheet}
 use Rattle.account.specs.Money.{availableOf}
 use Rattle.account.specs.Transfers.{withdrawChange, withdrawVerdict}
 use Rattle.account.specs.Verdicts.{_else_then_}
@@ -48,7 +49,7 @@ returns-3 c =
     let tested = c .before .before .before in
     let ranged = tested .before .before .before in
     let args = ranged .before .args in
-    both-pass _ _ (two (args .sheet) (args .amount)) _ (ranged .allows .ensures) _ (second tested) (not-false _ (tested .before .before .if1 .left)) (not-false _ (c .before .before .if2 .left)) _ (c .of-sheet .ensures)
+    both-pass _ _ (two (args .sheet) (args .amount)) _ (ranged .allows .ensures) _ (second tested) (not-false _ (tested .before .before .if1 .left)) (not-false _ (c .before .before .if2 .left)) _ (c .of-sheet .ensures ∙ ap (λ (s : Sheet). ofSheet s (args .last)) (c .before .posted .ensures))
 
 pub withdraw-spec : {M : Type 1} → statement M
 withdraw-spec =
@@ -64,6 +65,6 @@ withdraw-spec =
     let ranged = c .before .before .before .before in
     let args = ranged .before .args in
     second-fails _ _ (two (args .sheet) (args .amount)) _ (ranged .allows .ensures) _ (second (c .before)) (not-false _ (c .before .before .before .if1 .left)) (not-true _ (c .if2 .taken)))
-    (λ c. in-cash _ _ _ (second (c .before .before)) (not-false _ (c .before .if2 .left)))
+    (λ c κs. in-cash _ _ _ (second (c .before)) (not-false _ (c .if2 .left)))
     (λ c κs. search needs)
     returns-3)
