@@ -50,7 +50,11 @@ fn premium_posting(side: Side, buys: bool, sum: u64) -> Posting
 fn margin_posting(opens: bool, sum: u64) -> Posting
     ensures { λ r. ⌜ r ≡ marginPosting opens sum ⌝ }
 {
-    if opens { Posting::MarginTaken(sum) } else { Posting::MarginFreed(sum) }
+    if opens {
+        Posting::MarginTaken(sum)
+    } else {
+        Posting::MarginFreed(sum)
+    }
 }
 
 fn shifted(up: bool, x: u64, by: u64) -> u64

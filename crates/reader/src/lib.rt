@@ -30,21 +30,23 @@ fn find(bytes: &[u8], place: usize) -> Read
     Read { reading, next }
 }
 
-// A reader stands at the first record.
-pub fn new<'a>(bytes: &'a [u8]) -> Reader<'a>
-    ensures { λ r. ⌜ (r .bytes ≡ bytes .entry) × (r .place ≡ 0) ⌝ }
-{
-    Reader { bytes, place: 0 }
-}
+impl<'a> Reader<'a> {
+    // A reader stands at the first record.
+    pub fn new(bytes: &'a [u8]) -> Reader<'a>
+        ensures { λ r. ⌜ (r .bytes ≡ bytes .entry) × (r .place ≡ 0) ⌝ }
+    {
+        Reader { bytes, place: 0 }
+    }
 
-// The next record's answer. The reader is lent, and stands behind the record afterwards, or where it stood if it was refused.
-pub fn next<'s, 'a>(reader: &'s mut Reader<'a>) -> Reading
-    ensures answer { λ r. ⌜ r ≡ readAt (now (now (reader .entry) .bytes)) (now (reader .entry) .place) ⌝ }
-    ensures moved { λ r. ⌜ now (reader .exit) ≡ movedOn (now (reader .entry)) ⌝ }
-{
-    let found = find(reader.bytes, reader.place);
-    reader.place = found.next;
-    found.reading
+    // The next record's answer. The reader stands behind the record afterwards, or where it stood if it was refused.
+    pub fn next(&mut self) -> Reading
+        ensures answer { λ r. ⌜ r ≡ readAt (now (now (self .entry) .bytes)) (now (self .entry) .place) ⌝ }
+        ensures moved { λ r. ⌜ now (self .exit) ≡ movedOn (now (self .entry)) ⌝ }
+    {
+        let found = find(self.bytes, self.place);
+        self.place = found.next;
+        found.reading
+    }
 }
 
 // Bytes and a place in, a reader lent to `next`, the answer and the next place out: the one function that makes a reader of its own.
@@ -52,7 +54,7 @@ pub fn read_next(bytes: &[u8], place: usize) -> Read
     ensures { λ r. ⌜ r ≡ foundAt (now (bytes .entry)) place ⌝ }
 {
     let mut reader = Reader { bytes, place };
-    let reading = next(&mut reader);
+    let reading = reader.next();
     Read {
         reading,
         next: reader.place,

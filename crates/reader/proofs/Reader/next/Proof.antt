@@ -1,4 +1,4 @@
--- `reader::next` meets its contract: a walk of its MIR, by hand. The borrow is opened, `find` is called on the slice and the number that the reader holds, the number that it found is stored, and the borrow is closed at the reader moved on. All that the proof knows of `find` is that it meets its contract.
+-- `Reader::next` meets its contract: a walk of its MIR, by hand. The borrow is opened, `find` is called on the slice and the number that the reader holds, the number that it found is stored, and the borrow is closed at the reader moved on. All that the proof knows of `find` is that it meets its contract.
 -- A reader is Copy: what it owns is had twice. One copy is kept for the reader moved on (`again`), and of the other what bytes owns goes to the callee, beside the token of 'a, which comes back (`apart`).
 -- Assumes nothing.
 use mathlib.Core.Path.{_≡_, refl, ap}
@@ -55,15 +55,16 @@ use Rattle.reader.proofs.Read as S
 use Rattle.reader.proofs.Read.Laws as S′
 use Rattle.reader.proofs.Reader as T
 use Rattle.reader.proofs.Reader.Laws as T′
+use Rattle.reader.proofs.Spelled.{read, val, read-told, reading-is, next-fits}
 use Rattle.reader.proofs.find as find
 use Rattle.reader.proofs.find.Symbol as find-def
 use Rattle.reader.proofs.find.Symbol.{name as #reader·find}
 use Rattle.reader.proofs.find.Met as find-thm
-use Rattle.reader.proofs.next.Key.{name as #reader·next}
-use Rattle.reader.proofs.next as next
-use Rattle.reader.proofs.next.Statement as stated
-use Rattle.reader.proofs.next.Code as code
-use Rattle.reader.proofs.next.Code.Mir as code-mir
+use Rattle.reader.proofs.Reader.next.Key.{name as #reader·next}
+use Rattle.reader.proofs.Reader.next as next
+use Rattle.reader.proofs.Reader.next.Statement as stated
+use Rattle.reader.proofs.Reader.next.Code as code
+use Rattle.reader.proofs.Reader.next.Code.Mir as code-mir
 
 -- 'a, and the struct's type at it
 abbrev α : Lft → NamedLft
@@ -79,16 +80,6 @@ behind = plain (λ κs. T.the-row (namedLft 2 1 tt κs))
 abbrev stayed : Stays (next.ended .signature .params) (next.ended .kept)
 stayed = (stay-ref (0 ∷ []) tt behind, tt)
 
--- a `Read` as MIR has it, and the machine values of its reading and of the whole
-abbrev read : Ty
-read = tyStruct (S.struct .name) (tcons R′.mir (tcons (tyInt w64) tnil))
-
-abbrev val : Reading → Val
-val = LL.val R.the-type R′.the-laws
-
-abbrev read-val : Read → Val
-read-val r = vstruct (vcons (val (r .reading)) (vcons (vint w64 (r .next)) vnil))
-
 -- the function as it is walked. It is `code.function`, which spells its types by a table of all that a `Reading` holds: antt would write that table out at each step
 abbrev function : Fn
 function = record {
@@ -98,17 +89,6 @@ function = record {
   locals = local R′.mir valueLocal ∷ local (tyRef (named 0) mut (tyNamed (T.struct (α []) .name, named 1 ∷ []))) valueLocal ∷ local read valueLocal ∷ local (sliceTy (tyRef erased imm (tyInt w8))) valueLocal ∷ local (tyInt w64) valueLocal ∷ [];
   body = mapBody (λ _. T′.mir erased) code-mir.by-name-t-1;
 }
-
--- what whoever holds a `Read` knows of it
-module _ (r : Read) (u : Val) (is : Is S.the-row r (u ∷ [])) where
-  read-told : u ≡ read-val r
-  read-told = ap only (LL.tells S.the-type S′.the-laws r (u ∷ []) is)
-
-  reading-is : Is R.the-row (r .reading) (val (r .reading) ∷ [])
-  reading-is = LL.owed S.the-type S′.the-laws r (u ∷ []) is .0
-
-  next-fits : r .next < 2 ^ 64
-  next-fits = LL.owed S.the-type S′.the-laws r (u ∷ []) is .1 .0 .1
 
 -- the contract that the proof cites
 abbrev Find : {M : Type 1} (𝓤 : URA M) (H : Heap 𝓤) (A : Atoms 𝓤) (at-mem : Memory → SProp 𝓤) (run : Routine → Fun 𝓤) → Contract 𝓤

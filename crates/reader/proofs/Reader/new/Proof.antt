@@ -1,4 +1,4 @@
--- `reader::new` meets its contract: a walk of its MIR, by hand. A `Reader` is made of the slice passed and 0, in the result's local.
+-- `Reader::new` meets its contract: a walk of its MIR, by hand. A `Reader` is made of the slice passed and 0, in the result's local.
 -- A `&[u8]` is Copy, so what it owns is had twice: once for bytes at exit, and once inside the result, beside the facts of place.
 -- Assumes nothing.
 use mathlib.Core.Path.{refl}
@@ -38,10 +38,10 @@ use denote.Exit.{yes}
 use Rattle.reader.specs.declared.Reader.{Reader}
 use Rattle.reader.proofs.Reader as T
 use Rattle.reader.proofs.Reader.Laws as T′
-use Rattle.reader.proofs.new.Key.{name as #reader·new}
-use Rattle.reader.proofs.new as new
-use Rattle.reader.proofs.new.Statement as stated
-use Rattle.reader.proofs.new.Code as code
+use Rattle.reader.proofs.Reader.new.Key.{name as #reader·new}
+use Rattle.reader.proofs.Reader.new as new
+use Rattle.reader.proofs.Reader.new.Statement as stated
+use Rattle.reader.proofs.Reader.new.Code as code
 
 abbrev stayed : Stays (new.ended .signature .params) (new.ended .kept)
 stayed = (stay-none-slice (0 ∷ []) tt (plain (λ _. u8)) yes, tt)

@@ -1,0 +1,2 @@
+-- What the walks by hand share: a `Read` as the machine has it.
+pub mod Spelled
