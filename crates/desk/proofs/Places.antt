@@ -6,23 +6,23 @@ use Prim.Native.Nat.{ℕ, zero, suc, _+_, _*_, _≤_}
 use native.Mathlib.Decide.{decLt}
 use native.Mathlib.Omega.{arith}
 use lib.Dec.{ltb}
-use lib.ListN.{length, drop}
+use lib.ListN.{length}
 use Rattle.reading.specs.Reading.{readAt}
+use Rattle.reader.specs.Reader.{foundAt}
 use Rattle.set_up.specs.declared.stages.Book.{Book}
 use Rattle.desk.specs.Runs.{Ran, _before_, answerTo, ended, runFrom}
 use Rattle.desk.specs.declared.answer.Answered.{Answered}
 use Rattle.desk.proofs.Answered.{answer-eight}
 use Rattle.desk.proofs.Turns.{no-byte, rest, turn}
-use Rattle.reading.proofs.Within.{read-within}
 
 -- what follows an answer is the same where what follows one that does not end the run is
 same-rest : (s : List ℕ) (place : ℕ) (places others : ℕ) (answer : Answered)
-    → (answer .ends ≡ false → runFrom places s (place + answer .length) (answer .book) ≡ runFrom others s (place + answer .length) (answer .book))
+    → (answer .ends ≡ false → runFrom places s (foundAt s place .next) (answer .book) ≡ runFrom others s (foundAt s place .next) (answer .book))
     → rest s place places answer ≡ rest s place others answer
 same-rest s place places others answer same = go (answer .ends) same
   where
-    go : (ends : Bool) → (ends ≡ false → runFrom places s (place + answer .length) (answer .book) ≡ runFrom others s (place + answer .length) (answer .book))
-        → cond ends (ended place (answer .book)) (runFrom places s (place + answer .length) (answer .book)) ≡ cond ends (ended place (answer .book)) (runFrom others s (place + answer .length) (answer .book))
+    go : (ends : Bool) → (ends ≡ false → runFrom places s (foundAt s place .next) (answer .book) ≡ runFrom others s (foundAt s place .next) (answer .book))
+        → cond ends (ended place (answer .book)) (runFrom places s (foundAt s place .next) (answer .book)) ≡ cond ends (ended place (answer .book)) (runFrom others s (foundAt s place .next) (answer .book))
     go true on = refl
     go false on = on refl
 
@@ -33,12 +33,12 @@ more-change-nothing (suc places) more s place b few =
       | no none ↦ no-byte s place b (suc places + more) (omega (arith, none)) ∙ sym (no-byte s place b (suc places) (omega (arith, none)))
       | yes there ↦
           let answer = answerTo b (readAt s place) in
-          let long = answer-eight b (readAt s place) (length (drop place s)) (read-within s place) in
+          let long = answer-eight b s place in
           let one-more : suc places + more ≡ suc (places + more) = omega arith in
           ap (λ (n : ℕ). runFrom n s place b) one-more
           ∙ turn s place b (places + more) there
           ∙ ap (λ (r : Ran). answer before r)
-          (same-rest s place (places + more) places answer (λ on. more-change-nothing places more s (place + answer .length) (answer .book) (omega (arith, few, long on))))
+          (same-rest s place (places + more) places answer (λ on. more-change-nothing places more s (foundAt s place .next) (answer .book) (omega (arith, few, long on))))
           ∙ sym (turn s place b places there)
     ]
 
@@ -56,11 +56,11 @@ unfolding runFrom
 few-answers zero s place b = omega arith
 few-answers (suc places) s place b =
     let answer = answerTo b (readAt s place) in
-    go (ltb place (length s)) (answer .ends) (few-answers places s (place + answer .length) (answer .book))
+    go (ltb place (length s)) (answer .ends) (few-answers places s (foundAt s place .next) (answer .book))
   where
-    go : (there ends : Bool) → length (runFrom places s (place + answerTo b (readAt s place) .length) (answerTo b (readAt s place) .book) .answers) ≤ places
+    go : (there ends : Bool) → length (runFrom places s (foundAt s place .next) (answerTo b (readAt s place) .book) .answers) ≤ places
         → let answer = answerTo b (readAt s place) in
-        length (cond there (answer before cond ends (ended place (answer .book)) (runFrom places s (place + answer .length) (answer .book))) (ended place b) .answers) ≤ suc places
+        length (cond there (answer before cond ends (ended place (answer .book)) (runFrom places s (foundAt s place .next) (answer .book))) (ended place b) .answers) ≤ suc places
     go false ends few = omega arith
     go true true few = omega arith
     go true false few = omega (arith, few)

@@ -13,6 +13,7 @@ use lib.ListN.{length, length-map, set, take, drop}
 use lib.Seq.{sets, sets-eq, length-sets}
 use Rattle.terms.proofs.Ranges.{first-holds, second-holds}
 use Rattle.reading.specs.Reading.{readAt}
+use Rattle.reader.specs.Reader.{foundAt}
 use Rattle.account.specs.declared.judged.Verdict.{Verdict}
 use Rattle.set_up.specs.declared.stages.Book.{Book}
 use Rattle.desk.specs.Runs.{Ran, answerTo, ended, _before_, runFrom, told, numbersLeft, sumsLeft}
@@ -20,7 +21,7 @@ use Rattle.desk.specs.declared.answer.Answered.{Answered}
 
 -- what follows an answer
 abbrev pub rest : List ℕ → ℕ → ℕ → Answered → Ran
-rest s place places answer = cond (answer .ends) (ended place (answer .book)) (runFrom places s (place + answer .length) (answer .book))
+rest s place places answer = cond (answer .ends) (ended place (answer .book)) (runFrom places s (foundAt s place .next) (answer .book))
 
 module _ (s : List ℕ) (place : ℕ) (b : Book) where
   pub no-byte : (places : ℕ) → length s ≤ place → runFrom places s place b ≡ ended place b
@@ -75,12 +76,12 @@ module _ (whole : Ran) (k : ℕ) (numbers₀ numbers : List ℕ) (sums₀ sums :
   pub ended-so : (s : List ℕ) (place places : ℕ) (answer : Answered) → answer .ends ≡ true
       → Stands whole (rest s place places answer) k numbers₀ numbers sums₀ sums → Stands whole (ended place (answer .book)) k numbers₀ numbers sums₀ sums
   ended-so s place places answer e =
-      subst (λ (ends : Bool). Stands whole (cond ends (ended place (answer .book)) (runFrom places s (place + answer .length) (answer .book))) k numbers₀ numbers sums₀ sums) e
+      subst (λ (ends : Bool). Stands whole (cond ends (ended place (answer .book)) (runFrom places s (foundAt s place .next) (answer .book))) k numbers₀ numbers sums₀ sums) e
 
   pub goes-so : (s : List ℕ) (place places : ℕ) (answer : Answered) → answer .ends ≡ false
-      → Stands whole (rest s place places answer) k numbers₀ numbers sums₀ sums → Stands whole (runFrom places s (place + answer .length) (answer .book)) k numbers₀ numbers sums₀ sums
+      → Stands whole (rest s place places answer) k numbers₀ numbers sums₀ sums → Stands whole (runFrom places s (foundAt s place .next) (answer .book)) k numbers₀ numbers sums₀ sums
   goes-so s place places answer e =
-      subst (λ (ends : Bool). Stands whole (cond ends (ended place (answer .book)) (runFrom places s (place + answer .length) (answer .book))) k numbers₀ numbers sums₀ sums) e
+      subst (λ (ends : Bool). Stands whole (cond ends (ended place (answer .book)) (runFrom places s (foundAt s place .next) (answer .book))) k numbers₀ numbers sums₀ sums) e
 
   pub done-so : (s : List ℕ) (place : ℕ) (b : Book) (places : ℕ) → (places ≤ k) ⊎ (length s ≤ place)
       → Stands whole (runFrom (places - k) s place b) k numbers₀ numbers sums₀ sums → Stands whole (ended place b) k numbers₀ numbers sums₀ sums

@@ -1,5 +1,5 @@
 -- A run over the bytes of a list or a book: a refusal number or 0, and available, for each record, one after the other (Records; Figures to meet).
-use Prim.Native.Nat.{ℕ, zero, suc, _+_, min}
+use Prim.Native.Nat.{ℕ, zero, suc, min}
 use mathlib.Core.Bool.{true, false, cond}
 use mathlib.Core.List.{List, [], _∷_, _++_, map}
 use lib.Dec.{ltb}
@@ -11,6 +11,7 @@ use Rattle.reading.specs.Reading.{readAt}
 use Rattle.reading.specs.declared.Answer.{Answer}
 use Rattle.reading.specs.declared.Answer.the-variants as Answer·of
 use Rattle.reading.specs.declared.Reading.{Reading}
+use Rattle.reader.specs.Reader.{foundAt}
 use Rattle.account.specs.Money.{availableOf}
 use Rattle.account.specs.Verdicts.{numberIn}
 use Rattle.account.specs.declared.account.Sheet.{Sheet}
@@ -38,8 +39,8 @@ availableIn b = availableAt (b .stage) (b .account .sheet)
 abbrev pub answerBy : Book → Figures → Answer → Answered
 answerBy b f (Answer·of.Found entry len) =
     let after = entered b entry f in
-    record { number = numberIn (after .verdict); available = availableIn (after .book); ends = false; length = len; book = after .book }
-answerBy b f (Answer·of.Refused why place) = record { number = numberOf why; available = availableIn b; ends = true; length = 0; book = b }
+    record { number = numberIn (after .verdict); available = availableIn (after .book); ends = false; book = after .book }
+answerBy b f (Answer·of.Refused why place) = record { number = numberOf why; available = availableIn b; ends = true; book = b }
 
 unfoldable pub answerTo : Book → Reading → Answered
 answerTo b reading = answerBy b (reading .figures) (reading .answer)
@@ -64,7 +65,7 @@ runFrom zero s place b = ended place b
 runFrom (suc places) s place b =
     let answer = answerTo b (readAt s place) in
     cond (ltb place (length s))
-    (answer before cond (answer .ends) (ended place (answer .book)) (runFrom places s (place + answer .length) (answer .book)))
+    (answer before cond (answer .ends) (ended place (answer .book)) (runFrom places s (foundAt s place .next) (answer .book)))
     (ended place b)
 
 -- as many records are answered as both slices have places for (house)

@@ -9,13 +9,11 @@ ghost use mathlib.Core.Path.{_≡_};
 ghost use Rattle.set_up.specs.Sound.{SoundBook};
 ghost use Rattle.desk.specs.Runs.{answerTo, availableIn};
 
-// The refusal number or 0, and available; the book after the record. A record that could not be read has no length, and the run ends
-// with it.
+// The refusal number or 0, and available; the book after the record. With a record that could not be read the run ends.
 pub struct Answered {
     pub number: u8,
     pub available: i64,
     pub ends: bool,
-    pub length: usize,
     pub book: Book,
 }
 
@@ -26,7 +24,7 @@ pub(crate) fn answer_to(before: Book, reading: Reading) -> Answered
     let answer = reading.answer;
     let figures = reading.figures;
     match answer {
-        Answer::Found { entry, length } => {
+        Answer::Found { entry, length: _ } => {
             let entered = enter(before, entry, figures);
             let verdict = entered.verdict;
             let book = entered.book;
@@ -34,7 +32,6 @@ pub(crate) fn answer_to(before: Book, reading: Reading) -> Answered
                 number: verdict.number(),
                 available: available_in(book),
                 ends: false,
-                length,
                 book,
             }
         }
@@ -42,7 +39,6 @@ pub(crate) fn answer_to(before: Book, reading: Reading) -> Answered
             number: why.number(),
             available: available_in(before),
             ends: true,
-            length: 0,
             book: before,
         },
     }

@@ -4,7 +4,7 @@ mod answer;
 use account::Tables;
 use account::Verdict;
 use answer::answer_to;
-use reading::read;
+use reader::read_next;
 use rows::list_verdict;
 use set_up::Book;
 ghost use mathlib.Core.Path.{_≡_};
@@ -65,7 +65,8 @@ fn run_from(start: Book, bytes: &[u8], numbers: &mut [u8], sums: &mut [i64]) -> 
     let mut place = 0;
     let mut k = 0;
     while (k < numbers.len()) & (k < sums.len()) & (place < bytes.len()) {
-        let answer = answer_to(book, read(bytes, place));
+        let read = read_next(bytes, place);
+        let answer = answer_to(book, read.reading);
         let sum = answer.available;
         numbers[k] = answer.number;
         sums[k] = sum;
@@ -80,7 +81,7 @@ fn run_from(start: Book, bytes: &[u8], numbers: &mut [u8], sums: &mut [i64]) -> 
                 book,
             };
         }
-        place += answer.length;
+        place = read.next;
     }
     Run {
         verdict: Verdict::Accepted,

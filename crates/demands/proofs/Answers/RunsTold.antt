@@ -14,6 +14,7 @@ use Rattle.entries.specs.declared.entry.Entry.{Entry}
 use Rattle.entries.specs.declared.entry.Figures.{Figures}
 use Rattle.reading.specs.Reading as reading
 use Rattle.reading.specs.Reading.{kindAt, readAt}
+use Rattle.reader.specs.Reader.{foundAt}
 use Rattle.reading.specs.declared.Answer.{Answer}
 use Rattle.reading.specs.declared.Answer.the-variants as Reading·of
 use Rattle.reading.specs.declared.Reading.{Reading}
@@ -59,7 +60,7 @@ unfolding runFrom
 run-numbers zero s place b = tt
 run-numbers (suc places) s place b =
     let answer = answerTo b (readAt s place) in
-    go (ltb place (length s)) (answer .ends) _ (run-numbers places s (place + answer .length) (answer .book))
+    go (ltb place (length s)) (answer .ends) _ (run-numbers places s (foundAt s place .next) (answer .book))
   where
     go : (there ends : Bool) (more : Ran) → AllNumbered more
         → let answer = answerTo b (readAt s place) in AllNumbered (cond there (answer before cond ends (ended place (answer .book)) more) (ended place b))

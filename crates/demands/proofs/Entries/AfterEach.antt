@@ -9,6 +9,7 @@ use lib.Dec.{ltb}
 use lib.IntN.{ℤ, pos}
 use lib.ListN.{getD, length}
 use Rattle.reading.specs.Reading.{readAt}
+use Rattle.reader.specs.Reader.{foundAt}
 use Rattle.reading.specs.declared.Reading.{Reading}
 use Rattle.set_up.specs.declared.stages.Book.{Book}
 use Rattle.desk.specs.Runs.{Ran, _before_, answerTo, ended, runFrom}
@@ -44,18 +45,18 @@ module _ (Start : Book → Type 0) (Told : Book → Book → Reading → ℕ →
   after-each k zero s place b start few = absurd (omega arith)
   after-each zero (suc n) s place b start few =
       let answer = answerTo b (readAt s place) in
-      go (ltb place (length s)) (answer .ends) (runFrom n s (place + answer .length) (answer .book)) few
+      go (ltb place (length s)) (answer .ends) (runFrom n s (foundAt s place .next) (answer .book)) few
     where
       go : (there ends : Bool) (more : Ran)
           → let answer = answerTo b (readAt s place) in
           let ran : Ran → Ran = turned place b answer there ends in
-          0 < length (ran more .answers) → Between Told s (ended place b) (ran (ended (place + answer .length) (answer .book))) (said (ran more) 0)
+          0 < length (ran more .answers) → Between Told s (ended place b) (ran (ended (foundAt s place .next) (answer .book))) (said (ran more) 0)
       go false ends more few = absurd (omega arith)
       go true true more few = one b (readAt s place) start
       go true false more few = one b (readAt s place) start
   after-each (suc k) (suc n) s place b start few =
       let answer = answerTo b (readAt s place) in
-      behind-first s place b answer (ltb place (length s)) (answer .ends) k _ _ _ (after-each k n s (place + answer .length) (answer .book) (next b (readAt s place) start)) few
+      behind-first s place b answer (ltb place (length s)) (answer .ends) k _ _ _ (after-each k n s (foundAt s place .next) (answer .book) (next b (readAt s place) start)) few
 
 -- a run with more places than it has answers is the one with as many
 pub as-answered : (n : ℕ) (s : List ℕ) (place : ℕ) (b : Book) → runFrom n s place b ≡ runFrom (length (runFrom n s place b .answers)) s place b
@@ -68,13 +69,13 @@ as-answered (suc n) s place b =
           let answer = answerTo b (readAt s place) in
           let whole = turn s place b n there in
           whole
-          ∙ ap (λ (more : Ran). answer before more) (go answer (answer .ends) (as-answered n s (place + answer .length) (answer .book)))
+          ∙ ap (λ (more : Ran). answer before more) (go answer (answer .ends) (as-answered n s (foundAt s place .next) (answer .book)))
           ∙ sym (turn s place b (length (rest s place n answer .answers)) there)
           ∙ ap (λ (run : Ran). runFrom (length (run .answers)) s place b) (sym whole)
     ]
   where
     go : (answer : Answer.Answered) (ends : Bool)
-        → let more : ℕ → Ran = λ n. runFrom n s (place + answer .length) (answer .book) in
+        → let more : ℕ → Ran = λ n. runFrom n s (foundAt s place .next) (answer .book) in
         let next : ℕ → Ran = λ n. cond ends (ended place (answer .book)) (more n) in
         more n ≡ more (length (more n .answers)) → next n ≡ next (length (next n .answers))
     go answer true same = refl

@@ -4,14 +4,14 @@ use mathlib.Core.Logic.{_⊎_, ⊎-elim, inl, inr}
 use Prim.Native.Nat.{_+_, _-_, _≤_, _<_}
 use native.Mathlib.Omega.{arith}
 use borrow.Author.Needs.{needs}
-use lib.ListN.{length, set, drop, length-drop}
+use lib.ListN.{length, set}
 use mir.Syntax.{w64}
 use mir.Val.{ofZ, toZ}
 use mir.ValLaws.{toZ-ofZ}
+use Rattle.reader.specs.declared.Read.{Read}
 use Rattle.set_up.specs.Sound.{SoundBook}
 use Rattle.desk.specs.Runs.{answerTo, placesIn, runFrom}
-use Rattle.desk.proofs.Answered.{answer-sound, answer-within}
-use Rattle.reading.proofs.Within.{Within, read-within}
+use Rattle.desk.proofs.Answered.{answer-sound}
 use Rattle.desk.proofs.Turns.{Stands, at-end, done-so, ended-so, goes-on, goes-so, nothing-yet, numbers-left, rest, same-lengths, stops, sums-left, turned}
 use Rattle.desk.proofs.run_from.Statement.{statement}
 use Rattle.desk.proofs.run_from.Tie as tie
@@ -19,7 +19,6 @@ use Rattle.desk.proofs.run_from.Tie as tie
 abbrev Inv-loop : tie.InvT-loop
 Inv-loop bytes numbers₀ sums₀ book₀ place₀ k₀ numbers sums book place k =
     (k ≤ placesIn numbers₀ sums₀)
-    × (place ≤ length bytes)
     × SoundBook book
     × Stands (runFrom (placesIn numbers₀ sums₀) bytes 0 book₀) (runFrom (placesIn numbers₀ sums₀ - k) bytes place book) k numbers₀ numbers sums₀ sums
 
@@ -36,7 +35,7 @@ tests c =
     (length (c .before .before .before .before .args .bytes .now)) (c .loop-test .taken)
 
 lengths : (c : tie.At-loop Inv-loop μ-loop) → (length (c .loop .numbers) ≡ length (c .before .before .before .args .numbers .now)) × (length (c .loop .sums) ≡ length (c .before .before .before .args .sums .now))
-lengths c = same-lengths _ _ _ _ _ _ _ (c .loop .inv .3)
+lengths c = same-lengths _ _ _ _ _ _ _ (c .loop .inv .2)
 
 -- the sum is stored as the machine holds it, and read back as it was
 stored : (c : tie.After-struct-told Inv-loop μ-loop) → toZ w64 (ofZ w64 (c .before .answer-to .result .available)) ≡ c .before .answer-to .result .available
@@ -54,27 +53,14 @@ after c =
     let answered = c .before in
     let loop = answered .before .before .before in
     let test = tests (answered .before .before) in
-    let is = answered .answer-to .ensures ∙ ap (answerTo (loop .loop .book)) (answered .before .read .ensures) in
-    rw (stored c) (turned _ _ _ _ _ _ _ _ _ _ _ is (omega (arith, test, lengths loop)) (test .2) (loop .loop .inv .3))
+    let is = answered .answer-to .ensures ∙ ap (λ (r : Read). answerTo (loop .loop .book) (r .reading)) (answered .before .read-next .ensures) in
+    rw (stored c) (turned _ _ _ _ _ _ _ _ _ _ _ is (omega (arith, test, lengths loop)) (test .2) (loop .loop .inv .2))
 
 loop-holds : tie.Need-loop-holds Inv-loop μ-loop
-loop-holds c = (omega arith, omega arith, c .before .before .pre, nothing-yet _ _ _ _ _)
-
--- what is read stays within the bytes
-within : (c : tie.After-answer-to Inv-loop μ-loop)
-    → c .before .before .before .loop .place + c .answer-to .result .length ≤ length (c .before .before .before .before .before .before .args .bytes .now)
-within c =
-    let loop = c .before .before .before in
-    let bytes = loop .before .before .before .args .bytes .now in
-    let place = loop .loop .place in
-    let reading = c .before .read in
-    let size = length (drop place bytes) in
-    let inside : Within size (reading .result .answer) = rw (reading .ensures) (read-within bytes place) in
-    let most : c .answer-to .result .length ≤ size = rw (c .answer-to .ensures) (answer-within (loop .loop .book) (reading .result) size inside) in
-    omega (arith, most, length-drop place bytes, loop .loop .inv .1)
+loop-holds c = (omega arith, c .before .before .pre, nothing-yet _ _ _ _ _)
 
 sound : (c : tie.After-answer-to Inv-loop μ-loop) → SoundBook (c .answer-to .result .book)
-sound c = rw (c .answer-to .ensures) (answer-sound _ _ (c .before .before .before .loop .inv .2))
+sound c = rw (c .answer-to .ensures) (answer-sound _ _ (c .before .before .before .loop .inv .1))
 
 returns : tie.Need-returns Inv-loop μ-loop
 returns c =
@@ -86,12 +72,11 @@ returns c =
 
 loop-again : tie.Need-loop-again Inv-loop μ-loop
 loop-again c =
-    let told = c .before .before .before in
+    let told = c .before .before in
     let answered = told .before in (
       omega (arith, tests (answered .before .before), lengths (answered .before .before .before)),
-      within answered,
       sound answered,
-      goes-so _ _ _ _ _ _ _ _ _ (answered .answer-to .result) (c .before .if1 .left) (after told),
+      rw (ap (λ (r : Read). r .next) (answered .before .read-next .ensures)) (goes-so _ _ _ _ _ _ _ _ _ (answered .answer-to .result) (c .if1 .left) (after told)),
     )
 
 returns-2 : tie.Need-returns-2 Inv-loop μ-loop
@@ -100,7 +85,7 @@ returns-2 c =
     let args = c .before .before .before .before .args in
     let none = stops (loop .k) (length (loop .numbers)) (length (loop .sums)) (loop .place) (length (args .bytes .now)) (c .loop-test .left) in
     let few : (placesIn (args .numbers .now) (args .sums .now) ≤ loop .k) ⊎ (length (args .bytes .now) ≤ loop .place) = ⊎-elim (λ w. inl (omega (arith, w, lengths (c .before)))) (λ w. inr w) none in
-    let so = done-so _ _ _ _ _ _ _ _ _ _ few (loop .inv .3) in
+    let so = done-so _ _ _ _ _ _ _ _ _ _ few (loop .inv .2) in
     (at-end _ _ _ _ _ _ _ _ so _, (numbers-left _ _ _ _ _ _ _ _ so (omega arith), sums-left _ _ _ _ _ _ _ _ so (omega arith)))
 
 pub run-from-spec : {M : Type 1} → statement M
@@ -111,7 +96,7 @@ run-from-spec =
     μ-loop
     loop-holds
     (λ c κs. tt)
-    (λ c κs. c .before .before .loop .inv .2)
+    (λ c κs. c .before .before .loop .inv .1)
     (λ c. omega (arith, tests (c .before .before .before)))
     (λ c. search needs)
     (λ c. omega (arith, tests (c .before .before .before)))
@@ -119,8 +104,7 @@ run-from-spec =
     (λ c. same-lengths _ _ _ _ _ _ _ (after (c .before .before)) .0)
     (λ c. same-lengths _ _ _ _ _ _ _ (after (c .before .before)) .1)
     returns
-    (λ c. omega (arith, within (c .before .before .before .before), c .before .before .before .before .before .before .before .before .before .before .good .1 .0))
-    (λ c. omega (arith, tests (c .before .before .before .before .before .before), lengths (c .before .before .before .before .before .before .before)))
+    (λ c. omega (arith, tests (c .before .before .before .before .before), lengths (c .before .before .before .before .before .before)))
     loop-again
     (λ c. lengths (c .before) .0)
     (λ c. lengths (c .before) .1)

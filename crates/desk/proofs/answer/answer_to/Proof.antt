@@ -27,21 +27,21 @@ module _ (b : Book) (reading : Reading) (number : ℕ) (sum : ℤ) where
       → after ≡ entered b entry (reading .figures)
       → number ≡ numberIn (after .verdict)
       → sum ≡ availableIn (after .book)
-      → record { number = number; available = sum; ends = false; length = len; book = after .book } ≡ answerTo b reading
+      → record { number = number; available = sum; ends = false; book = after .book } ≡ answerTo b reading
   unfolding answerTo
   found entry len after is enters numbers sums =
-      (λ i. record { number = numbers i; available = sums i; ends = false; length = len; book = after .book })
-      ∙ ap (λ (x : Entered). record { number = numberIn (x .verdict); available = availableIn (x .book); ends = false; length = len; book = x .book }) enters
+      (λ i. record { number = numbers i; available = sums i; ends = false; book = after .book })
+      ∙ ap (λ (x : Entered). record { number = numberIn (x .verdict); available = availableIn (x .book); ends = false; book = x .book }) enters
       ∙ sym (ap (answerBy b (reading .figures)) is)
 
   refused : (why : Refusal) (place : ℕ)
       → reading .answer ≡ Refused why place
       → number ≡ numberOf why
       → sum ≡ availableIn b
-      → record { number = number; available = sum; ends = true; length = 0; book = b } ≡ answerTo b reading
+      → record { number = number; available = sum; ends = true; book = b } ≡ answerTo b reading
   unfolding answerTo
   refused why place is numbers sums =
-      (λ i. record { number = numbers i; available = sums i; ends = true; length = 0; book = b }) ∙ sym (ap (answerBy b (reading .figures)) is)
+      (λ i. record { number = numbers i; available = sums i; ends = true; book = b }) ∙ sym (ap (answerBy b (reading .figures)) is)
 
 returns : tie.Need-returns
 returns c =
