@@ -22,9 +22,10 @@ pub(crate) fn sheet_after(named: Named, kind: OrderKind, fill: Fill, sum: u64) -
     ensures { λ r. ⌜ r ≡ sheetAfter named fill kind ⌝ }
 {
     let q = fill.quantity as u64;
+    let share = q * named.hold;
     let sheet = named.sheet;
     let side = kind.moves();
-    let freed = posted(sheet, Posting::HoldFreed(q * named.hold));
+    let freed = posted(sheet, Posting::HoldFreed(share));
     let paid = posted(freed, premium_posting(side, kind.buys(), sum));
     match side {
         Side::Long => paid,

@@ -65,7 +65,7 @@ pub fn post(sheet: &mut Sheet, posting: Posting)
 // A sheet in, a posting, a sheet out: the one function that lends a sheet.
 pub fn posted(sheet: Sheet, posting: Posting) -> Sheet
     requires { ⌜ Postable sheet posting ⌝ }
-    ensures { λ r. ⌜ r ≡ posted sheet posting ⌝ }
+    ensures { λ after. ⌜ after ≡ posted sheet posting ⌝ }
 {
     let mut lent = sheet;
     post(&mut lent, posting);

@@ -51,7 +51,7 @@ impl<'a> Reader<'a> {
 
 // Bytes and a place in, a reader lent to `next`, the answer and the next place out: the one function that makes a reader of its own.
 pub fn read_next(bytes: &[u8], place: usize) -> Read
-    ensures { λ r. ⌜ r ≡ foundAt (now (bytes .entry)) place ⌝ }
+    ensures { λ read. ⌜ read ≡ foundAt (now (bytes .entry)) place ⌝ }
 {
     let mut reader = Reader { bytes, place };
     let reading = reader.next();

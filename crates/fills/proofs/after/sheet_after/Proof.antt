@@ -79,7 +79,7 @@ returns c =
     let paid = c .before .before in
     let freed = paid .before .before .before in
     let start = freed .before .before .before .before .before in
-    so _ _ _ _ (start .pre) _ _ _ _ (freed .before .before .moves .ensures) (paid .before .before .buys .ensures) (freed .posted .ensures) (paid .before .premium-posting .ensures) _ (paid .posted2 .ensures) _ refl _ (rw (c .enum-told .given .1) refl)
+    so _ _ _ _ (start .pre) _ _ _ _ (freed .before .moves .ensures) (paid .before .before .buys .ensures) (freed .posted .ensures) (paid .before .premium-posting .ensures) _ (paid .posted2 .ensures) _ refl _ (rw (c .enum-told .given .1) refl)
 
 returns-2 : tie.Need-returns-2
 returns-2 c =
@@ -87,7 +87,7 @@ returns-2 c =
     let paid = opens .before .before .before in
     let freed = paid .before .before .before in
     let start = freed .before .before .before .before .before in
-    so _ _ _ _ (start .pre) _ _ _ _ (freed .before .before .moves .ensures) (paid .before .before .buys .ensures) (freed .posted .ensures) (paid .before .premium-posting .ensures) _ (paid .posted2 .ensures) _ (opens .opens .ensures) _
+    so _ _ _ _ (start .pre) _ _ _ _ (freed .before .moves .ensures) (paid .before .before .buys .ensures) (freed .posted .ensures) (paid .before .premium-posting .ensures) _ (paid .posted2 .ensures) _ (opens .opens .ensures) _
     (c .posted3 .ensures ∙ rw (opens .before .enum-told2 .given .1, c .before .margin-posting .ensures) refl)
 
 returns-3 : tie.Need-returns-3
@@ -95,22 +95,22 @@ returns-3 c =
     let paid = c .before .before in
     let freed = paid .before .before .before in
     let start = freed .before .before .before .before .before in
-    so _ _ _ _ (start .pre) _ _ _ _ (freed .before .before .moves .ensures) (paid .before .before .buys .ensures) (freed .posted .ensures) (paid .before .premium-posting .ensures) _ (paid .posted2 .ensures) _ refl _ (rw (c .enum-told3 .given .1) refl)
+    so _ _ _ _ (start .pre) _ _ _ _ (freed .before .moves .ensures) (paid .before .before .buys .ensures) (freed .posted .ensures) (paid .before .premium-posting .ensures) _ (paid .posted2 .ensures) _ refl _ (rw (c .enum-told3 .given .1) refl)
 
 pub sheet-after-spec : {M : Type 1} → statement M
 sheet-after-spec =
     tie.close
     (tie.spec
     (λ c. search needs)
-    (λ c κs. search needs)
     (λ c. search needs)
+    (λ c κs. search needs)
     (λ c κs. c .before .before .before .before .pre .holds .there refl)
     (λ c κs. search needs)
     (λ c κs. search needs)
     (λ c κs.
     let freed = c .before .before in
     let start = freed .before .before .before .before .before in
-    premium-fits _ _ _ _ (start .pre) _ _ _ _ (freed .before .before .moves .ensures) (c .before .buys .ensures) (freed .posted .ensures) (c .premium-posting .ensures))
+    premium-fits _ _ _ _ (start .pre) _ _ _ _ (freed .before .moves .ensures) (c .before .buys .ensures) (freed .posted .ensures) (c .premium-posting .ensures))
     (λ c. search needs)
     (λ c. search needs)
     (λ c κs. search needs)
@@ -121,7 +121,7 @@ sheet-after-spec =
     let paid = opens .before .before .before in
     let freed = paid .before .before .before in
     let start = freed .before .before .before .before .before in
-    margin-fits _ _ _ _ (start .pre) _ _ _ _ (freed .before .before .moves .ensures) (paid .before .before .buys .ensures) (freed .posted .ensures) (paid .before .premium-posting .ensures) _ (paid .posted2 .ensures) _ (opens .opens .ensures) _
+    margin-fits _ _ _ _ (start .pre) _ _ _ _ (freed .before .moves .ensures) (paid .before .before .buys .ensures) (freed .posted .ensures) (paid .before .premium-posting .ensures) _ (paid .posted2 .ensures) _ (opens .opens .ensures) _
     (opens .before .enum-told2 .given .1) (c .margin-posting .ensures))
     (λ c. search needs)
     returns
