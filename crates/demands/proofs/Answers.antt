@@ -2,9 +2,11 @@
 pub mod BooksTold
 pub mod EntriesTold
 pub mod EveryInput
+pub mod Lent
 pub mod LentSlices
 pub mod OneOutcome
 pub mod PaperNumbers
+pub mod ReaderTold
 pub mod RecordsTold
 pub mod RunsTold
 pub mod Told

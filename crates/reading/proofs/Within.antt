@@ -11,7 +11,6 @@ use Rattle.terms.specs.Ranges.{_to_, _∈_}
 use Rattle.terms.specs.declared.refusal.Refusal.{Refusal}
 use Rattle.terms.specs.declared.refusal.Refusal.the-variants.{CutShort, Misshapen}
 use Rattle.terms.specs.Refusals.{numberOf}
-use Rattle.entries.specs.declared.entry.Entry.{Entry}
 use Rattle.terms.proofs.Ranges.{first-holds, inside}
 use Rattle.entries.specs.Entries.{entryOf, noFigures}
 use Rattle.entries.specs.Table.{countsFit, isDayEnd, lengthFits, lengthOf}

@@ -24,11 +24,18 @@ use Rattle.rules.proofs.net.Reads as net
 use Rattle.rules.proofs.net.Statement as net-statement
 use Rattle.entries.specs.declared.entry.Entry.{Entry}
 use Rattle.reading.specs.Reading as reading
-use Rattle.reading.specs.Reading.{kindAt}
+use Rattle.reading.specs.Reading.{kindAt, readAt}
 use Rattle.reading.specs.declared.Reading.{Reading}
 use Rattle.reading.proofs.read.Met as read-met
 use Rattle.reading.proofs.read.Reads as read
 use Rattle.reading.proofs.read.Statement as read-statement
+use Rattle.reader.proofs.Reader.new.Met as new-met
+use Rattle.reader.proofs.Reader.new.Statement as new-statement
+use Rattle.reader.proofs.Reader.next.Met as next-met
+use Rattle.reader.proofs.Reader.next.Statement as next-statement
+use Rattle.reader.proofs.read_next.Met as read-next-met
+use Rattle.reader.proofs.read_next.Reads as read-next
+use Rattle.reader.proofs.read_next.Statement as read-next-statement
 use Rattle.writing.specs.Writing as writing
 use Rattle.writing.specs.Writing.{bufferAfter, countsBarred, lengthFor, recordOf, writtenFor}
 use Rattle.writing.specs.declared.Written.{Written}
@@ -52,6 +59,7 @@ use Rattle.demands.specs.Each.{Each, OneOf, runNumbers}
 use Rattle.demands.specs.InOrder.{listTests, readingTests, writingTests}
 use Rattle.demands.specs.Records.{Typed}
 use Rattle.demands.proofs.Answers.EntriesTold.{list-number}
+use Rattle.demands.proofs.Answers.Lent.{NewAsks, NextAsks, NextSays}
 use Rattle.demands.proofs.Answers.PaperNumbers.{chosen, first-among}
 use Rattle.demands.proofs.Answers.RecordsTold.{read-number, write-number, write-untouched}
 use Rattle.demands.proofs.Answers.RunsTold.{answered-numbers, beyond-answered, list-run-numbers, run-numbers, refused-list}
@@ -70,6 +78,15 @@ net-answers M = net-met.met
 
 pub read-answers : (M : Type 1) → read-statement.statement M
 read-answers M = read-met.met
+
+pub new-answers : (M : Type 1) → new-statement.statement M
+new-answers M = new-met.met
+
+pub next-answers : (M : Type 1) → next-statement.statement M
+next-answers M = next-met.met
+
+pub read-next-answers : (M : Type 1) → read-next-statement.statement M
+read-next-answers M = read-next-met.met
 
 pub write-answers : (M : Type 1) → write-statement.statement M
 write-answers M = write-met.met
@@ -93,6 +110,15 @@ net-asks κs a = tt
 pub read-asks : (κs : _) (a : _) → read.Pre κs a
 read-asks κs a = tt
 
+pub new-asks : (κs : _) (a : _) → NewAsks κs a
+new-asks κs a = tt
+
+pub next-asks : (κs : _) (a : _) → NextAsks κs a
+next-asks κs a = tt
+
+pub read-next-asks : (κs : _) (a : _) → read-next.Pre κs a
+read-next-asks κs a = tt
+
 pub write-asks : (κs : _) (a : _) → write.Pre κs a
 write-asks κs a = tt
 
@@ -112,11 +138,17 @@ margin-numbers κs a r s p = charge-number (charges.marginAllowed (a .1 .1 .0) (
 pub premium-numbers : (κs : _) (a : _) (r : _) (s : _) → premium.Post κs a r s → OneOf (0 ∷ 4 ∷ []) (charges.numberIn r)
 premium-numbers κs a r s p = charge-number (charges.premiumAllowed (a .0) (a .1 .0)) _ r p (premium-says (a .0) (a .1 .0) .0)
 
-pub read-numbers : (κs : _) (a : _) (r : _) (s : _) → read.Post κs a r s → OneOf (0 ∷ 1 ∷ 2 ∷ 3 ∷ []) (reading.numberIn (r .answer))
-read-numbers κs a r s p =
-    let rest = drop (a .1 .0) (now (a .0)) in
-    let said = ap (λ (x : Reading). reading.numberIn (x .answer)) p ∙ read-number (now (a .0)) (a .1 .0) in
+read-among : (s : List ℕ) (place : ℕ) (r : Reading) → r ≡ readAt s place → OneOf (0 ∷ 1 ∷ 2 ∷ 3 ∷ []) (reading.numberIn (r .answer))
+read-among s place r is =
+    let rest = drop place s in
+    let said = ap (λ (x : Reading). reading.numberIn (x .answer)) is ∙ read-number s place in
     subst (OneOf (0 ∷ 1 ∷ 2 ∷ 3 ∷ [])) (sym said) (first-among (0 ∷ 1 ∷ 2 ∷ 3 ∷ []) (readingTests rest (kindAt rest)) refl search)
+
+pub read-numbers : (κs : _) (a : _) (r : _) (s : _) → read.Post κs a r s → OneOf (0 ∷ 1 ∷ 2 ∷ 3 ∷ []) (reading.numberIn (r .answer))
+read-numbers κs a r s p = read-among (now (a .0)) (a .1 .0) r p
+
+pub next-numbers : (κs : _) (a : _) (r : _) (s : _) → NextSays κs a r s → OneOf (0 ∷ 1 ∷ 2 ∷ 3 ∷ []) (reading.numberIn (r .answer))
+next-numbers κs a r s p = read-among (now (now (a .0) .bytes)) (now (a .0) .place) r (p .0)
 
 pub write-numbers : (κs : _) (a : _) (r : _) (s : _) → write.Post κs a r s → OneOf (0 ∷ 3 ∷ 17 ∷ []) (writing.numberIn r)
 write-numbers κs a r s p =

@@ -5,9 +5,11 @@ use Rattle.rules.proofs.margin.Reads as margin
 use Rattle.rules.proofs.premium.Reads as premium
 use Rattle.rules.proofs.net.Reads as net
 use Rattle.reading.proofs.read.Reads as read
+use Rattle.reader.proofs.read_next.Reads as read-next
 use Rattle.writing.specs.Writing.{recordOf, bufferAfter}
 use Rattle.writing.specs.declared.Written.{Written}
 use Rattle.writing.proofs.write.Reads as write
+use Rattle.postings.proofs.posted.Reads as posted
 use Rattle.gathering.proofs.gather.Reads as gather
 use Rattle.transfers.proofs.deposit.Reads as deposit
 use Rattle.transfers.proofs.withdraw.Reads as withdraw
@@ -23,6 +25,7 @@ use Rattle.set_up.proofs.enter.Reads as enter
 use Rattle.rows.proofs.list_verdict.Reads as list-verdict
 use Rattle.desk.proofs.run_list.Reads as run-list
 use Rattle.desk.proofs.run_book.Reads as run-book
+use Rattle.demands.proofs.Answers.Lent.{NewSays, NextSays, PostSays}
 
 pub margin-one : (κs : _) (a : _) (r r' : _) (s s' : _) → margin.Post κs a r s → margin.Post κs a r' s' → r ≡ r'
 margin-one κs a r r' s s' p q = p ∙ sym q
@@ -36,11 +39,29 @@ net-one κs a r r' s s' p q = p ∙ sym q
 pub read-one : (κs : _) (a : _) (r r' : _) (s s' : _) → read.Post κs a r s → read.Post κs a r' s' → r ≡ r'
 read-one κs a r r' s s' p q = p ∙ sym q
 
+pub read-next-one : (κs : _) (a : _) (r r' : _) (s s' : _) → read-next.Post κs a r s → read-next.Post κs a r' s' → r ≡ r'
+read-next-one κs a r r' s s' p q = p ∙ sym q
+
+-- a new reader is one reader, the reference in it too
+pub new-one : (κs : _) (a : _) (r r' : _) (s s' : _) → NewSays κs a r s → NewSays κs a r' s' → r ≡ r'
+new-one κs a r r' s s' p q i = record { bytes = (p .0 ∙ sym (q .0)) i; place = (p .1 ∙ sym (q .1)) i }
+
+-- and the lent reader ends in one way
+pub next-one : (κs : _) (a : _) (r r' : _) (s s' : _) → NextSays κs a r s → NextSays κs a r' s' → (r ≡ r') × (now (s .0) ≡ now (s' .0))
+next-one κs a r r' s s' p q = (p .0 ∙ sym (q .0), p .1 ∙ sym (q .1))
+
 -- and the lent buffer ends in one way: its contents follow from the answer
 pub write-one : (κs : _) (a : _) (r r' : _) (s s' : _) → write.Post κs a r s → write.Post κs a r' s' → (r ≡ r') × (now (s .1 .1 .0) ≡ now (s' .1 .1 .0))
 write-one κs a r r' s s' p q =
     let same = p .0 ∙ sym (q .0) in
     (same, p .1 ∙ ap (λ (w : Written). bufferAfter w (recordOf (a .0) (a .1 .0)) (now (a .1 .1 .0))) same ∙ sym (q .1))
+
+-- so does the lent sheet
+pub post-one : (κs : _) (a : _) (r r' : _) (s s' : _) → PostSays κs a r s → PostSays κs a r' s' → now (s .0) ≡ now (s' .0)
+post-one κs a r r' s s' p q = p ∙ sym q
+
+pub posted-one : (κs : _) (a : _) (r r' : _) (s s' : _) → posted.Post κs a r s → posted.Post κs a r' s' → r ≡ r'
+posted-one κs a r r' s s' p q = p ∙ sym q
 
 pub gather-one : (κs : _) (a : _) (r r' : _) (s s' : _) → gather.Post κs a r s → gather.Post κs a r' s' → r ≡ r'
 gather-one κs a r r' s s' p q = p ∙ sym q

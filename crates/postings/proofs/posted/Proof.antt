@@ -9,26 +9,24 @@ use mir.Raw.{raw as rawTy}
 use mir.Syntax.{named}
 use mir.Val.{Val, WT, hasTy, vptr}
 use base.Logic.{SProp, ent, id⊢}
-use base.Fml.{GName, Lft, ftrue, flft, fat, fsep, flent, fdead, fres}
+use base.Fml.{GName, ftrue, flft, fat, fsep, flent, fres}
 use prog.Memory.{Memory}
 use prog.Routine.{Routine}
 use prog.Wp.{Heap, Calls, Loops, WpFn, Tables}
 use ghost.Atoms.{Atoms, sem}
 use contract.Monad.{Fun, fact}
 use contract.Running.{givenOf, tables, tablesOf}
-use types.Kit.{Given, ‵, raw, some, later, ⋆, _⊛_, _$_, _∵_, !, qed, by, move, keep, drop, use1, use2, use3, split, join, pick, rewrite, fsplit, fjoin, fpick, fpack, suffices, frame, await, done}
+use types.Kit.{Given, ‵, raw, some, later, ⋆, _⊛_, _$_, _∵_, !, qed, by, move, keep, use1, use2, use3, split, join, pick, rewrite, fsplit, fjoin, fpick, fpack, suffices, frame, await, done}
 use types.Run.{look, init, forget, stop, from, load, addr, of-opd, and-then, no-more, assigns, land, returns, enter, alloc1, alloc0, params1, pass1, pass0, free1, free0}
 use types.SemTy.{Body}
 use types.Tokens.{lft-new, lft-end}
 use sound.WpLaws.{FmC, fmOf, WpFn-mono}
-use denote.RattleType.{owns}
 use denote.Laws.{Is, shows}
 use denote.Memory.{mem, cellAt, partAt, partOf}
 use denote.Plain.{nothing-lawful}
 use denote.Builtin.{unit}
 use denote.Ref.{RefT, MutRef}
 use denote.Lend.{lends-ref, ref-back}
-use denote.Signature.{plain}
 use denote.Steps.{owned, peeks, heard, nothing}
 use denote.Enum.Laws as EL
 use denote.Struct.Steps.{spelt}

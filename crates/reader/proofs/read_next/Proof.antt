@@ -47,7 +47,6 @@ use denote.Triple.Statement.{Contract, Triple}
 use denote.Triple.Table.{entered, cited}
 use denote.Triple.Walked.{says, Stays, stay-none, stay-none-slice, walkOf, goes-none, goes-none-slice, Walks, ends-at, walked, walk-meets}
 use denote.Exit.{yes}
-use Rattle.reading.specs.Reading.{readAt}
 use Rattle.reading.specs.declared.Reading.{Reading}
 use Rattle.reading.proofs.Reading as R
 use Rattle.reading.proofs.Reading.Laws as R′
@@ -58,7 +57,7 @@ use Rattle.reader.proofs.Read as S
 use Rattle.reader.proofs.Read.Laws as S′
 use Rattle.reader.proofs.Reader as T
 use Rattle.reader.proofs.Reader.Laws as T′
-use Rattle.reader.proofs.Spelled.{read, val, read-val, read-is}
+use Rattle.reader.proofs.Spelled.{read, read-val, read-is}
 use Rattle.reader.proofs.Reader.next as next
 use Rattle.reader.proofs.Reader.next.Symbol as next-def
 use Rattle.reader.proofs.Reader.next.Symbol.{name as #reader·next}
