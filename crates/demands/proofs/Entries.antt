@@ -3,5 +3,6 @@ pub mod AfterEach
 pub mod EveryEntry
 pub mod ListOfRecords
 pub mod OneAnswer
+pub mod Posted
 pub mod Stepped
 pub mod WorkedCases

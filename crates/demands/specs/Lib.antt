@@ -4,6 +4,7 @@ pub mod EveryEntry
 pub mod Gift
 pub mod GiftRuns
 pub mod InOrder
+pub mod Postings
 pub mod Records
 pub mod Says
 pub mod Staged

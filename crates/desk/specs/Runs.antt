@@ -59,7 +59,7 @@ infixr 5 _before_
 abbrev pub _before_ : Answered → Ran → Ran
 answer before rest = record { answers = (answer .number, answer .available) ∷ rest .answers; place = rest .place; book = rest .book }
 
--- from a place of the bytes on: "it stops after 1, 2 or 3, or when no byte is left", or when no place is left for an answer (Figures to meet; house)
+-- from a place of the bytes on, each time where the reader then stands: "it stops after 1, 2 or 3, or when no byte is left", or when no place is left for an answer (Records; Figures to meet; house)
 unfoldable pub runFrom : ℕ → List ℕ → ℕ → Book → Ran
 runFrom zero s place b = ended place b
 runFrom (suc places) s place b =

@@ -1,2 +1,3 @@
--- Laws that the proofs of several functions cite.
+-- Laws that the proofs of several functions cite, and what the postings of a fill leave.
 pub mod Behind
+pub mod Posted

@@ -1,10 +1,11 @@
--- What a fill posts besides its share of the hold, by the count that its kind moves (Orders and fills).
+-- What a fill posts, by the count that its kind moves (Orders and fills).
 use Prim.Native.Nat.{ℕ}
 use mathlib.Core.Bool.{Bool, true, false}
+use mathlib.Core.List.{List, [], _∷_}
 use Rattle.terms.specs.declared.kind.Side.{Side}
 use Rattle.terms.specs.declared.kind.Side.the-variants.{Long, Short, Covered}
 use Rattle.postings.specs.declared.Posting.{Posting}
-use Rattle.postings.specs.declared.Posting.the-variants.{CashIn, CashOut, CoveredPremium, MarginTaken, MarginFreed}
+use Rattle.postings.specs.declared.Posting.the-variants.{HoldFreed, CashIn, CashOut, CoveredPremium, MarginTaken, MarginFreed}
 
 -- "Buys pay the fill price from cash. Kinds 2 and 3 receive it in cash, kind 5 in covered premium" (Orders and fills)
 abbrev pub premiumPosting : Side → Bool → ℕ → Posting
@@ -17,3 +18,13 @@ premiumPosting Covered false sum = CoveredPremium sum
 abbrev pub marginPosting : Bool → ℕ → Posting
 marginPosting true sum = MarginTaken sum
 marginPosting false sum = MarginFreed sum
+
+-- margin is short x margin, and so is posted with short alone (The account)
+abbrev pub marginPostings : Side → Bool → ℕ → List Posting
+marginPostings Long opens sum = []
+marginPostings Short opens sum = marginPosting opens sum ∷ []
+marginPostings Covered opens sum = []
+
+-- its share of the hold, the premium, the margin (Orders and fills)
+abbrev pub fillPostings : Side → Bool → Bool → ℕ → ℕ → ℕ → List Posting
+fillPostings side buys opens share paid asked = HoldFreed share ∷ premiumPosting side buys paid ∷ marginPostings side opens asked

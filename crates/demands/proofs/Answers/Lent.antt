@@ -2,7 +2,7 @@
 use mathlib.Core.Path.{refl}
 use base.Logic.{emp}
 use borrow.Fn.Claims.{AllOf}
-use borrow.Fn.Read.{Read, all-models, no-know, reads}
+use borrow.Fn.Read.{Read, all-models, no-know, r-fact, r-last, r-top}
 use borrow.Fn.World.{World, Pr}
 use contract.Lifetimes.{Lfts}
 use denote.Triple.Clauses.{AtExit, ClausesAt}
@@ -21,7 +21,7 @@ module _ (κs : Lfts 1) (a : Args post.signature κs) where
 
   module _ (r : Res post.signature κs) (s : AtExit post.ended κs) where
     abbrev post-says : Read alone no-know (λ w. post-at w .ensures tt r s)
-    post-says = all-models (λ w. post-at w .ensures tt r s) (λ w. search reads) (λ w. refl) (λ w. refl) (λ w. refl)
+    post-says = all-models (λ w. post-at w .ensures tt r s) (λ w. r-last _) (λ w. refl) (λ w. refl) (λ w. refl)
 
     abbrev pub PostSays : Type 0
     PostSays = AllOf (post-says .owes)
@@ -31,14 +31,14 @@ module _ (κs : Lfts 1) (a : Args new.signature κs) where
   new-at w = new.clauses (w .𝓤) (w .H) (w .𝓖 .A) (w .𝓜 .mem) (w .𝓡 .run) κs a
 
   abbrev new-asked : Read alone no-know (λ w. new-at w .requires tt)
-  new-asked = all-models (λ w. new-at w .requires tt) (λ w. search reads) (λ w. refl) (λ w. refl) (λ w. refl)
+  new-asked = all-models (λ w. new-at w .requires tt) (λ w. r-top) (λ w. refl) (λ w. refl) (λ w. refl)
 
   abbrev pub NewAsks : Type 0
   NewAsks = AllOf (new-asked .tells)
 
   module _ (r : Res new.signature κs) (s : AtExit new.ended κs) where
     abbrev new-says : Read alone no-know (λ w. new-at w .ensures tt r s)
-    new-says = all-models (λ w. new-at w .ensures tt r s) (λ w. search reads) (λ w. refl) (λ w. refl) (λ w. refl)
+    new-says = all-models (λ w. new-at w .ensures tt r s) (λ w. r-last _) (λ w. refl) (λ w. refl) (λ w. refl)
 
     abbrev pub NewSays : Type 0
     NewSays = AllOf (new-says .owes)
@@ -48,14 +48,14 @@ module _ (κs : Lfts 2) (a : Args next.signature κs) where
   next-at w = next.clauses (w .𝓤) (w .H) (w .𝓖 .A) (w .𝓜 .mem) (w .𝓡 .run) κs a
 
   abbrev next-asked : Read alone no-know (λ w. next-at w .requires tt)
-  next-asked = all-models (λ w. next-at w .requires tt) (λ w. search reads) (λ w. refl) (λ w. refl) (λ w. refl)
+  next-asked = all-models (λ w. next-at w .requires tt) (λ w. r-top) (λ w. refl) (λ w. refl) (λ w. refl)
 
   abbrev pub NextAsks : Type 0
   NextAsks = AllOf (next-asked .tells)
 
   module _ (r : Res next.signature κs) (s : AtExit next.ended κs) where
     abbrev next-says : Read alone no-know (λ w. next-at w .ensures tt r s)
-    next-says = all-models (λ w. next-at w .ensures tt r s) (λ w. search reads) (λ w. refl) (λ w. refl) (λ w. refl)
+    next-says = all-models (λ w. next-at w .ensures tt r s) (λ w. r-fact _ _ (r-last _)) (λ w. refl) (λ w. refl) (λ w. refl)
 
     abbrev pub NextSays : Type 0
     NextSays = AllOf (next-says .owes)

@@ -1,4 +1,4 @@
--- `post` meets its contract: a walk of its MIR, by hand. The borrow is opened, the sheet is read, `after` makes the new one of it, and the borrow is closed at that. All that the walk knows of `after` is that it meets its contract.
+-- `post` meets its contract: a walk of its MIR, by hand. The borrow is opened, the sheet is read, `after` makes the new one of it, and the borrow ends with that one in its place; of `after` only its contract is used.
 use mathlib.Core.Path.{_≡_, refl}
 use mathlib.Core.List.{List, [], _∷_}
 use Prim.Native.Nat.{ℕ}
@@ -55,7 +55,7 @@ abbrev stayed : Stays (post.ended .signature .params) (post.ended .kept)
 stayed = (stay-ref (0 ∷ []) tt (plain (λ _. T.the-row)), (stay-none (λ _. P.the-row) yes, tt))
 
 module _ {M : Type 1} (𝓤 : URA M) (H : Heap 𝓤) (A : Atoms 𝓤) (at-mem : Memory → SProp 𝓤) (run : Routine → Fun 𝓤) where
-  -- the contract that the walk cites
+  -- what `after` promises
   abbrev After : Contract 𝓤
   After = tripleOf 𝓤 H A after.signature (after.spec 𝓤 H A at-mem run)
 

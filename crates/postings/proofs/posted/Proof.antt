@@ -59,7 +59,7 @@ abbrev stayed : Stays (posted′.ended .signature .params) (posted′.ended .kep
 stayed = (stay-none (λ _. T.the-row) yes, (stay-none (λ _. P.the-row) yes, tt))
 
 module _ {M : Type 1} (𝓤 : URA M) (H : Heap 𝓤) (A : Atoms 𝓤) (at-mem : Memory → SProp 𝓤) (run : Routine → Fun 𝓤) where
-  -- the contract that the walk cites
+  -- what `post` promises
   abbrev Post : Contract 𝓤
   Post = tripleOf 𝓤 H A post.signature (post.spec 𝓤 H A at-mem run)
 

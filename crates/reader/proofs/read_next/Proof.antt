@@ -1,5 +1,5 @@
--- `read_next` meets its contract: a walk of its MIR, by hand. A reader is made in a local and lent to `next`, for a lifetime within that of the bytes; it comes back moved on, and its place is read. All that the proof knows of `next` is that it meets its contract.
--- The bytes are Copy: what they own is had twice, once for the exit and once inside the reader. Half of their token goes into the token of the shorter lifetime and half goes along; both come back.
+-- `read_next` meets its contract: a walk of its MIR, by hand. A reader is made in a local and lent to `next`, for a lifetime within that of the bytes; it comes back moved on, and its place is read. Of `next` only its contract is used.
+-- The bytes are held twice, by the caller and in the reader. Half of their token goes into the token of the shorter lifetime and half goes along; both come back.
 use mathlib.Core.Path.{_≡_, refl, ap}
 use mathlib.Core.List.{List, [], _∷_}
 use Prim.Native.Nat.{ℕ, _<_, _^_}
@@ -89,7 +89,7 @@ function = record {
 }
 
 module _ {M : Type 1} (𝓤 : URA M) (H : Heap 𝓤) (A : Atoms 𝓤) (at-mem : Memory → SProp 𝓤) (run : Routine → Fun 𝓤) where
-  -- the contract that the proof cites
+  -- what `next` promises
   abbrev Next : Contract 𝓤
   Next = tripleOf 𝓤 H A next.signature (next.spec 𝓤 H A at-mem run)
 

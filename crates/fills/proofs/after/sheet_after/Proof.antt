@@ -9,14 +9,15 @@ use Rattle.terms.specs.declared.kind.Side.{Side}
 use Rattle.terms.specs.declared.kind.Side.the-variants.{Long, Short, Covered}
 use Rattle.rules.specs.Count.{forCount}
 use Rattle.entries.specs.declared.entry.Fill.{Fill}
-use Rattle.account.specs.Fills.{cashAfter, marginAfter, premiumAfter, sheetAfter}
+use Rattle.account.specs.Fills.{sheetAfter}
 use Rattle.account.specs.declared.account.Sheet.{Sheet}
 use Rattle.account.specs.declared.judged.Named.{Named}
-use Rattle.postings.specs.Postings.{Postable, posted}
+use Rattle.postings.specs.Postings.{Postable, allPosted, posted}
 use Rattle.postings.specs.declared.Posting.{Posting}
 use Rattle.postings.specs.declared.Posting.the-variants.{HoldFreed}
-use Rattle.fills.specs.Posts.{marginPosting, premiumPosting}
+use Rattle.fills.specs.Posts.{marginPosting, marginPostings, premiumPosting}
 use Rattle.fills.specs.Takes.{Exact, Shifts}
+use Rattle.fills.proofs.Posted.{fill-posted}
 use Rattle.fills.proofs.after.sheet_after.Statement.{statement}
 use Rattle.fills.proofs.after.sheet_after.Tie as tie
 
@@ -37,24 +38,6 @@ margin-stays s sum Long false = refl
 margin-stays s sum Short false = refl
 margin-stays s sum Covered false = refl
 
--- only short asks margin
-abbrev margined : Side → Bool → ℕ → Sheet → Sheet
-margined Long opens sum s = s
-margined Short opens sum s = posted s (marginPosting opens sum)
-margined Covered opens sum s = s
-
-module _ (s : Sheet) (freed paid asked : ℕ) where
-  all-posted : (side : Side) (buys opens : Bool) → margined side opens asked (posted (posted s (HoldFreed freed)) (premiumPosting side buys paid))
-      ≡ record { cash = cashAfter side buys (s .cash) paid; premium = premiumAfter side buys (s .premium) paid; holds = s .holds - freed; margin = marginAfter side opens (s .margin) asked }
-  all-posted Long true opens = refl
-  all-posted Long false opens = refl
-  all-posted Short true true = refl
-  all-posted Short true false = refl
-  all-posted Short false true = refl
-  all-posted Short false false = refl
-  all-posted Covered true opens = refl
-  all-posted Covered false opens = refl
-
 module _ (f : Named) (fill : Fill) (kind : OrderKind) (sum : ℕ) (exact : Exact f fill kind sum) (side : Side) (buys : Bool) (freed : Sheet) (posting : Posting)
     (moves : side ≡ movesOf kind) (pays : buys ≡ buysOf kind) (frees : freed ≡ posted (f .sheet) (HoldFreed (fill .quantity * f .hold))) (posts : posting ≡ premiumPosting side buys sum) where
   premium-fits : Postable freed posting
@@ -67,10 +50,10 @@ module _ (f : Named) (fill : Fill) (kind : OrderKind) (sum : ℕ) (exact : Exact
         rw asks (margin-needs paid (fill .quantity * f .margin) opens (rw (stays, opening) (exact .margin (sym moves ∙ short))))
 
     -- a sheet that is what the three postings leave
-    so : (after : Sheet) → after ≡ margined side opens (fill .quantity * f .margin) paid → after ≡ sheetAfter f fill kind
+    so : (after : Sheet) → after ≡ allPosted paid (marginPostings side opens (fill .quantity * f .margin)) → after ≡ sheetAfter f fill kind
     unfolding forCount
     so after is =
-        is ∙ rw (pay, posts, frees, all-posted (f .sheet) (fill .quantity * f .hold) sum (fill .quantity * f .margin) side buys opens, moves, pays, opening, exact .paying) refl
+        is ∙ rw (pay, posts, frees, fill-posted (f .sheet) (fill .quantity * f .hold) sum (fill .quantity * f .margin) side buys opens, moves, pays, opening, exact .paying) refl
 
 -- each arm knows its side, and with it what the last posting is
 returns : tie.Need-returns

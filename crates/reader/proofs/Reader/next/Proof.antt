@@ -1,6 +1,5 @@
--- `Reader::next` meets its contract: a walk of its MIR, by hand. The borrow is opened, `find` is called on the slice and the number that the reader holds, the number that it found is stored, and the borrow is closed at the reader moved on. All that the proof knows of `find` is that it meets its contract.
--- A reader is Copy: what it owns is had twice. One copy is kept for the reader moved on (`again`), and of the other what bytes owns goes to the callee, beside the token of 'a, which comes back (`apart`).
--- Assumes nothing.
+-- `Reader::next` meets its contract: a walk of its MIR, by hand. The reader behind the borrow is read, `find` is asked on its bytes and its place, and the borrow ends with the reader at the place that `find` gives; of `find` only its contract is used.
+-- Bytes may be held twice: what the reader owns of them stays with it (`again`), while as much goes to `find` with the token of 'a, which comes back (`apart`).
 use mathlib.Core.Path.{_≡_, refl, ap}
 use Prim.Native.Nat.{ℕ, _<_, _^_}
 use mathlib.Core.List.{List, [], _∷_}
@@ -65,14 +64,14 @@ use Rattle.reader.proofs.Reader.next.Statement as stated
 use Rattle.reader.proofs.Reader.next.Code as code
 use Rattle.reader.proofs.Reader.next.Code.Mir as code-mir
 
--- 'a, and the struct's type at it
+-- 'a, and the type of a reader at it
 abbrev α : Lft → NamedLft
 α κ′ = record { mir = named 1; lft = κ′ }
 
 abbrev B : Lft → RattleType
 B κ′ = T.the-row (α κ′)
 
--- `Reader<'a>`, as the referent's place in the signature
+-- the reader behind the borrow, as the signature has it
 abbrev behind : Slot 2
 behind = plain (λ κs. T.the-row (namedLft 2 1 tt κs))
 
@@ -89,7 +88,7 @@ function = record {
   body = mapBody (λ _. T′.mir erased) code-mir.by-name-t-1;
 }
 
--- the contract that the proof cites
+-- what `find` promises
 abbrev Find : {M : Type 1} (𝓤 : URA M) (H : Heap 𝓤) (A : Atoms 𝓤) (at-mem : Memory → SProp 𝓤) (run : Routine → Fun 𝓤) → Contract 𝓤
 Find 𝓤 H A at-mem run = tripleOf 𝓤 H A find.signature (find.spec 𝓤 H A at-mem run)
 
@@ -110,7 +109,7 @@ module _ {M : Type 1} (𝓤 : URA M) (H : Heap 𝓤) (A : Atoms 𝓤) (W : Given
   abbrev moved : ℕ → Reader
   moved n = record { bytes = h .bytes; place = n }
 
-  -- the struct's type and laws, its fields' values, and what it owns
+  -- a reader's type with its laws, what its fields hold, and what it owns
   abbrev D : Declared
   D = T.the-type (α κ′)
 
@@ -123,7 +122,7 @@ module _ {M : Type 1} (𝓤 : URA M) (H : Heap 𝓤) (A : Atoms 𝓤) (W : Given
   abbrev Own : Fml
   Own = B κ′ .own h (T′.lowered h ∷ [])
 
-  -- what the callee is passed
+  -- what `find` is given
   abbrev passed : Vals find.signature (κ′, tt)
   passed = (sliceVal (h .bytes .ptr) (length (h .bytes .now)) ∷ [], (vint w64 (h .place) ∷ [], tt))
 
@@ -133,20 +132,20 @@ module _ {M : Type 1} (𝓤 : URA M) (H : Heap 𝓤) (A : Atoms 𝓤) (W : Given
   asked : ent 𝓤 (onEntry 𝓤 H A find.signature (κ′, tt) (q′, tt) fields passed) (Find 𝓤 H A at-mem run .pre to)
   asked = qed W ((‵ (flft κ′ q′) ⊛ ‵ ftrue) ∷ ‵ (owns (ShrSlice (named 0) κ′ u8 ∷ usize ∷ []) fields passed) ∷ []) ∵ join ! $ frame ! $ done !
 
-  -- what the reader owns gives what the callee asks, and is kept
+  -- what the reader owns is enough for `find`, and stays
   apart : h .place < 2 ^ 64 → ent 𝓤 (⋆ 𝓤 H A (‵ Own ∷ (‵ (flft κ′ q′) ⊛ ‵ ftrue) ∷ [])) (sep 𝓤 (Find 𝓤 H A at-mem run .pre to) (sem 𝓤 H A Own))
   apart fits =
       qed W (‵ Own ∷ (‵ (flft κ′ q′) ⊛ ‵ ftrue) ∷ []) ∵ use1 W (‵ Own ⊛ ‵ Own) (LL.copy D (T′.the-copy (α κ′)) 𝓤 H A W .twice h (T′.lowered h ∷ [])) $ split ! $
       use1 W (given (T′.lowered h ∷ [] ≡ T′.lowered h ∷ []) (‵ (all-own (D .parts) L fields))) (own-open 𝓤 H A W D L fields (T′.lowered h)) $ learn ! (λ _. use1 W (‵ (ownAt (D .parts) L 0 (h .bytes)) ⊛ ‵ (rest (D .parts) L 0 fields)) (own-out 𝓤 H A W (D .parts) L 0 fields) $ split ! $
-      -- [what bytes owns; what place owns; what the reader owns; the token]
+      -- [of the bytes; of the place; of the reader; the token]
       move ! (1 ∷ []) $ drop ! $ nothing ! $ owned ! usize (Is usize) (uint-makes 𝓤 H A W w64) (h .place) _ (refl, fits) $ fjoin ! $ move ! (1 ∷ 0 ∷ []) $ fjoin ! $
       move ! (2 ∷ 0 ∷ []) $ use2 W (raw (Find 𝓤 H A at-mem run .pre to)) asked $ frame ! $ done !)
 
-  -- of the callee's `ensured`, the clause alone: it has no `&mut`, so what is said of last values is dropped
+  -- of what `find` leaves its clause is enough: nothing was lent to it to be changed
   said : (r : Read) → ent 𝓤 (ensured 𝓤 H A find.ended (find.clauses 𝓤 H A at-mem run) (κ′, tt) fields tt r) (fact 𝓤 (r ≡ found))
   said r = exE 𝓤 _ (λ ws. snd∗ 𝓤 (sem 𝓤 H A (lasts find.ended (κ′, tt) fields ws)) (fact 𝓤 (r ≡ found)))
 
-  -- what bytes owns is kept, and the facts of place are made anew
+  -- the same bytes at another place
   again : (n : ℕ) → n < 2 ^ 64 → ent 𝓤 (sem 𝓤 H A Own) (sem 𝓤 H A (B κ′ .own (moved n) (T′.lowered (moved n) ∷ [])))
   again n fits = qed W (‵ Own ∷ []) ∵ owned ! usize (Is usize) (uint-makes 𝓤 H A W w64) n _ (refl, fits) $ move ! (1 ∷ 0 ∷ []) $ by ! (own-put 𝓤 H A W D L 1 fields n (T′.lowered h))
 
@@ -169,7 +168,7 @@ module _ {M : Type 1} (𝓤 : URA M) (H : Heap 𝓤) (A : Atoms 𝓤) (W : Given
         opens ! tt (B κ′) {h = h} b o (λ vs. spelt ! (B κ′) (Is (B κ′)) (shows 𝓤 H A (B κ′)) (LL.vals D L) (LL.tells D L) fullShare h vs b o $
         use1 W (‵ (fat fullShare (T′.mir erased) b o (T′.lowered h))) (W .laws .raw-at fullShare (T′.mir erased) b o (T′.lowered h)) $
         move ! (1 ∷ []) $ peeks ! (B κ′) (Is (B κ′)) (shows 𝓤 H A (B κ′)) h (T′.lowered h ∷ []) (λ was. move ! (1 ∷ 0 ∷ []) $
-        -- [the struct's cell; what a Reader owns; the open borrow; obs; auth; 'a's token; …; _4; …; _3; …; _2; …; _1; …; room for _0; …]
+        -- [the reader's memory; what it owns; the open borrow; obs; auth; 'a's token; …; _4; …; _3; …; _2; …; _1; …; room for _0; …]
         assigns ! (of-opd ! (load ! (from ! (hop ! (look ! 13 refl) (fld ! refl (stop !)))) (look-in ! 0 (sub ! 0 refl (whole !))))) (from ! (stop !)) (init ! 9 refl (tt, shr-slice-lawful 𝓤 H A W (named 1) κ′ u8 .typed (h .bytes) _ (LL.owed D L h _ was .0) .0 .1)) $
         assigns ! (of-opd ! (load ! (from ! (hop ! (look ! 13 refl) (fld ! refl (stop !)))) (look-in ! 0 (sub ! 1 refl (whole !))))) (from ! (stop !)) (init ! 7 refl (tt, record { fits = LL.owed D L h _ was .1 .0 .1 })) $
         -- the call
@@ -177,7 +176,7 @@ module _ {M : Type 1} (𝓤 : URA M) (H : Heap 𝓤) (A : Atoms 𝓤) (W : Given
         calls-at ! fm (Find 𝓤 H A at-mem run) known to (and-then ! (load ! (from ! (stop !)) (look ! 9 refl)) (and-then ! (load ! (from ! (stop !)) (look ! 7 refl)) (no-more !))) (λ u.
         use1 W (later (some (λ (r : Read). ((‵ (flft κ′ q′) ⊛ ‵ ftrue) ⊛ ‵ (S.the-row .own r (u ∷ []))) ⊛ raw (ensured 𝓤 H A find.ended (find.clauses 𝓤 H A at-mem run) (κ′, tt) fields tt r)))) (id⊢ 𝓤 _) $ await ! tt $ pick ! (λ r.
         split ! $ move ! (1 ∷ []) $ use1 W (raw (fact 𝓤 (r ≡ found))) (said r) $ heard ! (r ≡ found) (λ e. split ! $ move ! (1 ∷ []) $ facts ! S.the-row (Is S.the-row) (shows 𝓤 H A S.the-row) r (u ∷ []) (λ is.
-        -- ['a's token; what a Reader owns; the struct's cell; the open borrow; obs; auth; …; _4; …; _3; …; _2; …; _1; …; room for _0; …]
+        -- ['a's token; what the reader owns; its memory; the open borrow; obs; auth; …; _4; …; _3; …; _2; …; _1; …; room for _0; …]
         land ! (from ! (stop !)) (init ! 11 refl (LL.lawful S.the-type S′.the-laws 𝓤 H A W .typed r _ is .0)) $ rewrite ! 11 (λ (w : Val). ‵ (fat fullShare read l₂ 0 w)) (read-told r u is) refl $
         assigns ! (of-opd ! (load ! (from ! (fld ! refl (stop !))) (look-in ! 11 (sub ! 1 refl (whole !))))) (from ! (hop ! (look ! 13 refl) (fld ! refl (stop !)))) (store-in ! 2 (sub ! 1 refl (whole !)) (tt, record { fits = next-fits r u is })) $
         assigns ! (of-opd ! (load ! (from ! (fld ! refl (stop !))) (look-in ! 11 (sub ! 0 refl (whole !))))) (from ! (stop !)) (init ! 15 refl (LL.lawful R.the-type R′.the-laws 𝓤 H A W .typed (r .reading) _ (reading-is r u is) .0)) $
