@@ -1,5 +1,5 @@
 -- `sheet_after` meets its contract: what its postings leave is what the definition says of the kind, and an exact fill has what each of them needs.
-use mathlib.Core.Path.{_≡_, refl, sym, _∙_}
+use mathlib.Core.Path.{_≡_, refl, sym, ap, _∙_}
 use mathlib.Core.Bool.{Bool, true, false, not}
 use Prim.Native.Nat.{ℕ, _+_, _-_, _*_, _^_, _<_}
 use borrow.Author.Needs.{needs}
@@ -55,29 +55,23 @@ module _ (f : Named) (fill : Fill) (kind : OrderKind) (sum : ℕ) (exact : Exact
     so after is =
         is ∙ rw (pay, posts, frees, fill-posted (f .sheet) (fill .quantity * f .hold) sum (fill .quantity * f .margin) side buys opens, moves, pays, opening, exact .paying) refl
 
--- each arm knows its side, and with it what the last posting is
-returns : tie.Need-returns
-returns c =
-    let paid = c .before .before in
-    let freed = paid .before .before .before in
-    let start = freed .before .before .before .before .before in
-    so _ _ _ _ (start .pre) _ _ _ _ (freed .before .moves .ensures) (paid .before .before .buys .ensures) (freed .posted .ensures) (paid .before .premium-posting .ensures) _ (paid .posted2 .ensures) _ refl _ (rw (c .enum-told .given .1) refl)
+-- in an arm the side is known
+in-arm : (s : Sheet) (opens : Bool) (asked : ℕ) (side known : Side) → side ≡ known → allPosted s (marginPostings known opens asked) ≡ allPosted s (marginPostings side opens asked)
+in-arm s opens asked side known e = sym (ap (λ (z : Side). allPosted s (marginPostings z opens asked)) e)
 
-returns-2 : tie.Need-returns-2
-returns-2 c =
-    let opens = c .before .before .before in
-    let paid = opens .before .before .before in
-    let freed = paid .before .before .before in
-    let start = freed .before .before .before .before .before in
-    so _ _ _ _ (start .pre) _ _ _ _ (freed .before .moves .ensures) (paid .before .before .buys .ensures) (freed .posted .ensures) (paid .before .premium-posting .ensures) _ (paid .posted2 .ensures) _ (opens .opens .ensures) _
-    (c .posted3 .ensures ∙ rw (opens .before .enum-told2 .given .1, c .before .margin-posting .ensures) refl)
+-- what every arm knows: the hold is freed, and the premium paid or received
+module _ (paid : tie.After-posted2) where
+  abbrev start : tie.Start
+  start = paid .before .before .before .before .before .before .before .before
 
-returns-3 : tie.Need-returns-3
-returns-3 c =
-    let paid = c .before .before in
-    let freed = paid .before .before .before in
-    let start = freed .before .before .before .before .before in
-    so _ _ _ _ (start .pre) _ _ _ _ (freed .before .moves .ensures) (paid .before .before .buys .ensures) (freed .posted .ensures) (paid .before .premium-posting .ensures) _ (paid .posted2 .ensures) _ refl _ (rw (c .enum-told3 .given .1) refl)
+  abbrev side : Side
+  side = paid .before .before .before .before .moves .result
+
+  leaves : (opens : Bool) → opens ≡ opensOf (start .args .kind) → (after : Sheet)
+      → after ≡ allPosted (paid .posted2 .result) (marginPostings side opens (start .args .fill .quantity * start .args .named .margin)) → after ≡ sheetAfter (start .args .named) (start .args .fill) (start .args .kind)
+  leaves opens opening after is =
+      let freed = paid .before .before .before in
+      so _ _ _ _ (start .pre) _ _ _ _ (freed .before .moves .ensures) (paid .before .before .buys .ensures) (freed .posted .ensures) (paid .before .premium-posting .ensures) _ (paid .posted2 .ensures) opens opening after is
 
 pub sheet-after-spec : {M : Type 1} → statement M
 sheet-after-spec =
@@ -106,6 +100,8 @@ sheet-after-spec =
     margin-fits _ _ _ _ (start .pre) _ _ _ _ (freed .before .moves .ensures) (paid .before .before .buys .ensures) (freed .posted .ensures) (paid .before .premium-posting .ensures) _ (paid .posted2 .ensures) _ (opens .opens .ensures) _
     (opens .before .enum-told2 .given .1) (c .margin-posting .ensures))
     (λ c. search needs)
-    returns
-    returns-2
-    returns-3)
+    (λ c. leaves (c .before .before) _ refl _ (in-arm _ _ _ _ Long (c .enum-told .given .1)))
+    (λ c.
+    let opens = c .before .before .before in
+    leaves (opens .before .before .before) _ (opens .opens .ensures) _ (c .posted3 .ensures ∙ ap (posted _) (c .before .margin-posting .ensures) ∙ in-arm _ _ _ _ Short (opens .before .enum-told2 .given .1)))
+    (λ c. leaves (c .before .before) _ refl _ (in-arm _ _ _ _ Covered (c .enum-told3 .given .1))))
