@@ -3,8 +3,8 @@ use account::Sheet;
 ghost use mathlib.Core.Path.{_≡_};
 ghost use Rattle.postings.specs.Postings.{Postable, posted};
 
-// Cash in and out are deposits and withdrawals, and premium received and paid; of a covered open's premium nothing is cash before the
-// day end, which joins the two and works margin afresh.
+// Cash comes in and goes out by deposits and withdrawals, and by premium received and paid; a covered open's premium is no cash before
+// the day end, which joins the two, frees every hold and has the margin that was worked afresh.
 pub enum Posting {
     HoldTaken(u64),
     HoldFreed(u64),

@@ -17,7 +17,7 @@ pub struct Read {
     pub next: usize,
 }
 
-// The work, on the bytes and the number: a record that is read is passed, one that is refused is not.
+// The answer at a place: a record that is read is passed over, one that is refused is not.
 fn find(bytes: &[u8], place: usize) -> Read
     ensures { λ r. ⌜ r ≡ foundAt (now (bytes .entry)) place ⌝ }
 {
