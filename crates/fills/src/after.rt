@@ -58,13 +58,6 @@ fn margin_posting(opens: bool, sum: u64) -> Posting
     }
 }
 
-fn shifted(up: bool, x: u64, by: u64) -> u64
-    requires { ⌜ Shifts 64 up x by ⌝ }
-    ensures { λ r. ⌜ r ≡ shifted up x by ⌝ }
-{
-    if up { x + by } else { x - by }
-}
-
 // The count that the kind moves: an open adds to it, a close takes off it.
 pub(crate) fn moved(side: Side, opens: bool, quantity: u32, position: Position) -> Position
     requires { ⌜ Shifts 32 opens (countOf side position) quantity ⌝ }
@@ -96,7 +89,11 @@ fn counted(up: bool, count: Contracts, by: u32) -> Contracts
     requires { ⌜ Shifts 32 up (count .0) by ⌝ }
     ensures { λ r. ⌜ r .0 ≡ shifted up (count .0) by ⌝ }
 {
-    Contracts(shifted(up, count.0 as u64, by as u64) as u32)
+    if up {
+        Contracts(count.0 + by)
+    } else {
+        Contracts(count.0 - by)
+    }
 }
 
 // With nothing left the place is free.
