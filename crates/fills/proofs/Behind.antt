@@ -85,7 +85,6 @@ module _ (t : Tables) (a : Account) (sound : Sound t a) where
           cash = record { fits = omega (arith, most, ceiling); there = λ sells. takes .cash (not-false _ sells) };
           premium = omega (arith, most, ceiling);
           holds = record { fits = held; there = λ taken. takes .holds };
-          margined = margined;
           margin = λ short. record { fits = margined; there = λ closes. takes .margin (buy-close kind short closes) };
           count = record { fits = omega (arith, few, counts); there = takes .count };
         }

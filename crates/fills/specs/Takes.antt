@@ -29,7 +29,6 @@ pub record Exact (f : Named) (fill : Fill) (kind : OrderKind) (sum : ℕ) : Type
   pub cash : Shifts 64 (not (buysOf kind)) (f .sheet .cash) sum
   pub premium : f .sheet .premium + sum < 2 ^ 64
   pub holds : Shifts 64 false (f .sheet .holds) (fill .quantity * f .hold)
-  pub margined : f .sheet .margin + fill .quantity * f .margin < 2 ^ 64
   pub margin : movesOf kind ≡ Short → Shifts 64 (opensOf kind) (f .sheet .margin) (fill .quantity * f .margin)
   pub count : Shifts 32 (opensOf kind) (countOf (movesOf kind) (f .position)) (fill .quantity)
 

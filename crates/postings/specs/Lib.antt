@@ -1,2 +1,3 @@
--- What each posting leaves of the money sheet.
+-- What each posting leaves of the money sheet, and what it needs.
 pub mod Postings
+pub mod Room

@@ -1,34 +1,22 @@
--- "The money sheet of four sums is lent to each posting, which updates it where it stands" (The account): what each leaves, and what it needs.
-use Prim.Native.Nat.{_+_, _-_, _^_, _≤_, _<_}
+-- "The money sheet of four sums is lent to each posting, which updates it where it stands" (The account): what each leaves of it.
+use Prim.Native.Nat.{_+_, _-_}
 use mathlib.Core.List.{List, [], _∷_}
 use Rattle.account.specs.declared.account.Sheet.{Sheet}
 use Rattle.postings.specs.declared.Posting.{Posting}
 use Rattle.postings.specs.declared.Posting.the-variants.{HoldTaken, HoldFreed, CashIn, CashOut, CoveredPremium, MarginTaken, MarginFreed, DayEnd}
 
--- what a posting leaves: an order's hold is taken or freed; cash comes in or goes out; "covered premium: received today for covered opening, not yet usable"; short asks margin or frees it (The account; Orders and fills; 000, article 11);
--- at a day end all orders are cancelled and hold nothing, margin is worked afresh, and "covered premium joins cash" (Day end)
+-- the sheet after a posting, each of which moves one sum; a day end, the last, settles all four
 abbrev pub posted : Sheet → Posting → Sheet
-posted s (HoldTaken sum) = record { cash = s .cash; premium = s .premium; holds = s .holds + sum; margin = s .margin }
-posted s (HoldFreed sum) = record { cash = s .cash; premium = s .premium; holds = s .holds - sum; margin = s .margin }
-posted s (CashIn sum) = record { cash = s .cash + sum; premium = s .premium; holds = s .holds; margin = s .margin }
-posted s (CashOut sum) = record { cash = s .cash - sum; premium = s .premium; holds = s .holds; margin = s .margin }
-posted s (CoveredPremium sum) = record { cash = s .cash; premium = s .premium + sum; holds = s .holds; margin = s .margin }
-posted s (MarginTaken sum) = record { cash = s .cash; premium = s .premium; holds = s .holds; margin = s .margin + sum }
-posted s (MarginFreed sum) = record { cash = s .cash; premium = s .premium; holds = s .holds; margin = s .margin - sum }
-posted s (DayEnd margin) = record { cash = s .cash + s .premium; premium = 0; holds = 0; margin = margin }
+posted s (HoldTaken sum) = record { cash = s .cash; premium = s .premium; holds = s .holds + sum; margin = s .margin }  -- an accepted order takes its hold: "order holds" (The account)
+posted s (HoldFreed sum) = record { cash = s .cash; premium = s .premium; holds = s .holds - sum; margin = s .margin }  -- a fill frees its share of it, a cancel the rest (Orders and fills)
+posted s (CashIn sum) = record { cash = s .cash + sum; premium = s .premium; holds = s .holds; margin = s .margin }  -- a deposit; "kinds 2 and 3 receive it in cash" (Orders and fills)
+posted s (CashOut sum) = record { cash = s .cash - sum; premium = s .premium; holds = s .holds; margin = s .margin }  -- a withdrawal; "buys pay the fill price from cash" (Orders and fills)
+posted s (CoveredPremium sum) = record { cash = s .cash; premium = s .premium + sum; holds = s .holds; margin = s .margin }  -- "kind 5 in covered premium", "not yet usable" (000, article 11)
+posted s (MarginTaken sum) = record { cash = s .cash; premium = s .premium; holds = s .holds; margin = s .margin + sum }  -- "short x margin": an open of it asks (The account)
+posted s (MarginFreed sum) = record { cash = s .cash; premium = s .premium; holds = s .holds; margin = s .margin - sum }  -- and a close of it frees (The account)
+posted s (DayEnd margin) = record { cash = s .cash + s .premium; premium = 0; holds = 0; margin = margin }  -- "covered premium joins cash", no order rests, "margin worked afresh" (Day end)
 
 -- postings one after the other (house)
 abbrev pub allPosted : Sheet → List Posting → Sheet
 allPosted s [] = s
 allPosted s (posting ∷ rest) = allPosted (posted s posting) rest
-
--- what is taken off is there, and what is added to stays in reach (house)
-abbrev pub Postable : Sheet → Posting → Type 0
-Postable s (HoldTaken sum) = s .holds + sum < 2 ^ 64
-Postable s (HoldFreed sum) = sum ≤ s .holds
-Postable s (CashIn sum) = s .cash + sum < 2 ^ 64
-Postable s (CashOut sum) = sum ≤ s .cash
-Postable s (CoveredPremium sum) = s .premium + sum < 2 ^ 64
-Postable s (MarginTaken sum) = s .margin + sum < 2 ^ 64
-Postable s (MarginFreed sum) = sum ≤ s .margin
-Postable s (DayEnd margin) = s .cash + s .premium < 2 ^ 64

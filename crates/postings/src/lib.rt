@@ -1,7 +1,8 @@
 // Postings: what moves money. The sheet is lent to each, which updates it where it stands.
 use account::Sheet;
 ghost use mathlib.Core.Path.{_≡_};
-ghost use Rattle.postings.specs.Postings.{Postable, posted};
+ghost use Rattle.postings.specs.Postings.{posted};
+ghost use Rattle.postings.specs.Room.{Postable};
 
 // Cash comes in and goes out by deposits and withdrawals, and by premium received and paid; a covered open's premium is no cash before
 // the day end, which joins the two, frees every hold and has the margin that was worked afresh.

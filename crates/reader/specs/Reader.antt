@@ -19,4 +19,4 @@ foundAt bytes place = record { reading = readAt bytes place; next = nextPlace pl
 
 -- the reader afterwards: the same bytes, at the place of the next record (Records)
 abbrev pub movedOn : Reader → Reader
-movedOn r = record { bytes = r .bytes; place = nextPlace (r .place) (readAt (now (r .bytes)) (r .place) .answer) }
+movedOn r = record { bytes = r .bytes; place = foundAt (now (r .bytes)) (r .place) .next }

@@ -42,7 +42,8 @@ use denote.Exit.{yes}
 use Rattle.account.specs.declared.account.Sheet.{Sheet}
 use Rattle.account.proofs.account.Sheet as T
 use Rattle.account.proofs.account.Sheet.Laws as T′
-use Rattle.postings.specs.Postings.{Postable, posted}
+use Rattle.postings.specs.Postings.{posted}
+use Rattle.postings.specs.Room.{Postable}
 use Rattle.postings.specs.declared.Posting.{Posting}
 use Rattle.postings.proofs.Posting as P
 use Rattle.postings.proofs.Posting.Laws as P′

@@ -2,6 +2,7 @@
 use mathlib.Core.Path.{_≡_, refl, sym, ap, _∙_}
 use mathlib.Core.Bool.{Bool, true, false, not}
 use Prim.Native.Nat.{ℕ, _+_, _-_, _*_, _^_, _<_}
+use native.Mathlib.Omega.{arith}
 use borrow.Author.Needs.{needs}
 use Rattle.terms.specs.Kinds.{movesOf, opensOf, buysOf}
 use Rattle.terms.specs.declared.kind.OrderKind.{OrderKind}
@@ -12,7 +13,8 @@ use Rattle.entries.specs.declared.entry.Fill.{Fill}
 use Rattle.account.specs.Fills.{sheetAfter}
 use Rattle.account.specs.declared.account.Sheet.{Sheet}
 use Rattle.account.specs.declared.judged.Named.{Named}
-use Rattle.postings.specs.Postings.{Postable, allPosted, posted}
+use Rattle.postings.specs.Postings.{allPosted, posted}
+use Rattle.postings.specs.Room.{Postable}
 use Rattle.postings.specs.declared.Posting.{Posting}
 use Rattle.postings.specs.declared.Posting.the-variants.{HoldFreed}
 use Rattle.fills.specs.Posts.{marginPosting, marginPostings, premiumPosting}
@@ -90,7 +92,10 @@ sheet-after-spec =
     (λ c. search needs)
     (λ c. search needs)
     (λ c κs. search needs)
-    (λ c. search needs)
+    (λ c.
+    let paid = c .before .before .before .before in
+    let most = start paid .pre .margin (sym (paid .before .before .before .before .moves .ensures) ∙ c .before .before .enum-told2 .given .1) .fits in
+    record { fits = omega (arith, most) })
     (λ c κs. search needs)
     (λ c κs.
     let opens = c .before .before in
