@@ -51,7 +51,17 @@ withoutPosition sheet place order underlying holding last =
       last = last;
     }
 
--- what is decided: the refusal, or the change of an accepted entry (house)
+-- what is decided: the refusal, or the change of an accepted entry; of an accepted day end, that the day ends (house)
 abbrev pub decided : Verdict → Change → Decision
 decided Accepted change = Decision·of.Changes change
 decided (Refused why) change = Decision·of.Refused why
+
+abbrev pub ending : Verdict → Decision
+ending Accepted = Decision·of.DayEnds
+ending (Refused why) = Decision·of.Refused why
+
+-- the verdict that a decision tells (house)
+abbrev pub verdictIn : Decision → Verdict
+verdictIn (Decision·of.Refused why) = Refused why
+verdictIn (Decision·of.Changes change) = Accepted
+verdictIn Decision·of.DayEnds = Accepted

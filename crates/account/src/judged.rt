@@ -10,7 +10,7 @@ use terms::Position;
 use terms::Refusal;
 use terms::Units;
 ghost use mathlib.Core.Path.{_≡_};
-ghost use Rattle.account.specs.Changes.{ofSheet, withoutPosition};
+ghost use Rattle.account.specs.Changes.{ofSheet, verdictIn, withoutPosition};
 ghost use Rattle.account.specs.Verdicts.{numberIn};
 
 pub enum Verdict {
@@ -125,10 +125,23 @@ impl Change {
     }
 }
 
-// What is decided about an entry: why it is refused, or what it changes.
+// What is decided about an entry: why it is refused, what it changes, or that the day ends, which goes through all rows.
 pub enum Decision {
     Refused(Refusal),
     Changes(Change),
+    DayEnds,
+}
+
+impl Decision {
+    pub fn verdict(self) -> Verdict
+        ensures { λ r. ⌜ r ≡ verdictIn self ⌝ }
+    {
+        match self {
+            Decision::Refused(why) => Verdict::Refused(why),
+            Decision::Changes(_) => Verdict::Accepted,
+            Decision::DayEnds => Verdict::Accepted,
+        }
+    }
 }
 
 // What an entry leads to: the verdict, and tables and account after it.

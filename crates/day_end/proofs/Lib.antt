@@ -1,3 +1,5 @@
 -- Laws of a pass over rows, which the proofs of the functions cite.
 pub mod Listing
+pub mod MarginPass
 pub mod Summed
+pub mod UnitsPass

@@ -1,2 +1,3 @@
--- What the loops of a day end come back with; the rules are in `account`.
+-- What a day end asks of its figures, and what its loops come back with; the rules are in `account`.
+pub mod Figures
 pub mod Passes

@@ -16,6 +16,7 @@ use Rattle.account.specs.Sums.{Σ, _when_}
 use Rattle.account.specs.Totals.{isOf}
 use Rattle.account.specs.declared.account.Holding.{Holding}
 use Rattle.account.specs.declared.tables.Tables.{Tables}
+use Rattle.day_end.specs.declared.after.Worked.{Worked}
 
 -- the first k rows changed, each by its number, and the others as they were
 unfoldable pub changedTo : {A : Type 0} → ℕ → A → (ℕ → A → A) → List A → ℕ → List A
@@ -39,6 +40,10 @@ withUnits h covered unit = record { locked = record { 0 = h .locked .0 + unitsFo
 -- each underlying's holding over the first k contracts
 unfoldable pub holdingsTo : Tables → List Position → ℕ → List Holding
 holdingsTo t ps k = listed 8 (λ u. ofUnits (unitsTo t ps k u))
+
+-- what the first k contracts come to
+abbrev pub workedTo : Tables → List Position → ℕ → Worked
+workedTo t ps k = record { margin = marginTo t ps k; holdings = holdingsTo t ps k }
 
 -- positions whose sums stay small, over any first k contracts of sound tables
 pub record Summed (t : Tables) (ps : List Position) : Type 0 where

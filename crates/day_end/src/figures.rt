@@ -1,6 +1,6 @@
 // A day end's figures: whether they are allowed, and the tables with them.
+use account::Decision;
 use account::Tables;
-use account::Verdict;
 use entries::Contract;
 use entries::Figures;
 use entries::Underlying;
@@ -10,26 +10,27 @@ ghost use mathlib.Core.Path.{_≡_};
 ghost use Prim.Native.Nat.{_≤_};
 ghost use lib.ListN.{getD, length};
 ghost use Rattle.terms.specs.Ranges.{rangeOf, _∈_};
+ghost use Rattle.account.specs.Changes.{ending};
 ghost use Rattle.account.specs.DayEnd.{closed, dayEndVerdict, every, figuresInstalled, settled};
 ghost use Rattle.account.specs.Rows.{noContract, noUnderlying};
 ghost use Rattle.account.specs.Sound.{SoundTables};
 ghost use Rattle.day_end.specs.Passes.{changedTo};
 
-pub(crate) fn verdict(tables: Tables, n: u16, m: u16, figures: Figures) -> Verdict
+pub fn decide(tables: Tables, n: u16, m: u16, figures: Figures) -> Decision
     requires { ⌜ SoundTables tables ⌝ }
-    ensures { λ r. ⌜ r ≡ dayEndVerdict tables n m figures ⌝ }
+    ensures { λ r. ⌜ r ≡ ending (dayEndVerdict tables n m figures) ⌝ }
 {
     if (n as usize != tables.n) | (m as usize != tables.m) {
-        return Verdict::Refused(Refusal::OutOfRange);
+        return Decision::Refused(Refusal::OutOfRange);
     }
     let settlements = figures.settlements;
     let closes = figures.closes;
     if all_allowed(&settlements, n as usize, Measure::Settlement)
         & all_allowed(&closes, m as usize, Measure::Price)
     {
-        Verdict::Accepted
+        Decision::DayEnds
     } else {
-        Verdict::Refused(Refusal::OutOfRange)
+        Decision::Refused(Refusal::OutOfRange)
     }
 }
 

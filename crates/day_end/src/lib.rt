@@ -1,36 +1,29 @@
 // The day end: refused whole with 4, or figures installed and the account ended on them.
-mod ended;
+mod after;
 mod figures;
 
 use account::Account;
 use account::Outcome;
 use account::Tables;
 use account::Verdict;
-use ended::ended;
+use after::account_after;
 use entries::Figures;
+pub use figures::decide;
 use figures::installed;
-use figures::verdict;
 ghost use mathlib.Core.Path.{_≡_};
-ghost use Rattle.account.specs.DayEnd.{dayEndVerdict, dayEnded, figuresInstalled};
+ghost use Rattle.account.specs.DayEnd.{dayEnded, figuresInstalled};
 ghost use Rattle.account.specs.Sound.{Sound};
-ghost use Rattle.account.specs.Steps.{outcome};
+ghost use Rattle.day_end.specs.Figures.{FiguresTaken};
 
-pub fn day_end(tables: Tables, account: Account, n: u16, m: u16, figures: Figures) -> Outcome
-    requires { ⌜ Sound tables account ⌝ }
-    ensures { λ r. ⌜ r ≡ outcome (dayEndVerdict tables n m figures) tables account (figuresInstalled tables figures) (dayEnded (figuresInstalled tables figures) account) ⌝ }
+// The day is ended on figures that the tables take.
+pub fn ended(tables: Tables, account: Account, figures: Figures) -> Outcome
+    requires { ⌜ Sound tables account × FiguresTaken tables figures ⌝ }
+    ensures { λ r. ⌜ r ≡ record { verdict = Verdict.Accepted; tables = figuresInstalled tables figures; account = dayEnded (figuresInstalled tables figures) account } ⌝ }
 {
-    let verdict = verdict(tables, n, m, figures);
-    let Verdict::Accepted = verdict else {
-        return Outcome {
-            verdict,
-            tables,
-            account,
-        };
-    };
     let new = installed(tables, figures);
     Outcome {
-        verdict,
+        verdict: Verdict::Accepted,
         tables: new,
-        account: ended(new, account),
+        account: account_after(new, account),
     }
 }

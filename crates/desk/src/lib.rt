@@ -1,12 +1,16 @@
 // The desk: a list and a book, run from their bytes, the answers written into places that the caller lends.
-mod answer;
+mod available;
 
 use account::Tables;
 use account::Verdict;
-use answer::answer_to;
+use available::available_in;
 use reader::read_next;
+use reading::Answer;
 use rows::list_verdict;
 use set_up::Book;
+use set_up::Ruling;
+use set_up::rule;
+use set_up::ruled;
 ghost use mathlib.Core.Path.{_≡_};
 ghost use Rattle.set_up.specs.Sound.{SoundBook};
 ghost use Rattle.rows.specs.Given.{listVerdict};
@@ -66,14 +70,21 @@ fn run_from(start: Book, bytes: &[u8], numbers: &mut [u8], sums: &mut [i64]) -> 
     let mut k = 0;
     while (k < numbers.len()) & (k < sums.len()) & (place < bytes.len()) {
         let read = read_next(bytes, place);
-        let answer = answer_to(book, read.reading);
-        let sum = answer.available;
-        numbers[k] = answer.number;
-        sums[k] = sum;
+        let reading = read.reading;
+        let answer = reading.answer;
+        let figures = reading.figures;
+        let ruling = match answer {
+            Answer::Found { entry, length: _ } => rule(book, entry, figures),
+            Answer::Refused { why, place: _ } => Ruling::Refused(why),
+        };
+        book = ruled(book, figures, ruling);
+        numbers[k] = ruling.verdict().number();
+        let stage = book.stage;
+        let account = book.account;
+        let sheet = account.sheet;
+        sums[k] = available_in(stage, sheet);
         k += 1;
-        let after = answer.book;
-        book = after;
-        if answer.ends {
+        if read.next == place {
             return Run {
                 verdict: Verdict::Accepted,
                 answered: k,

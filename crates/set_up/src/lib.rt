@@ -1,7 +1,10 @@
-// A book from its first record on: the stages of set-up, and one record at its stage.
+// A book from its first record on: the stages of set-up, what a record comes to at its stage, and the book after it.
+mod ruled;
+mod ruling;
 mod stages;
 
+pub use ruled::ruled;
+pub use ruling::Ruling;
+pub use ruling::rule;
 pub use stages::Book;
-pub use stages::Entered;
 pub use stages::Stage;
-pub use stages::enter;

@@ -1,76 +1,90 @@
--- A decision booked is the outcome of its verdict: the change where it is accepted, nothing where it is refused. So each entry but a day end is stepped as its decision is booked.
+-- A decision booked is the outcome of its verdict: what it changes where it is accepted, nothing where it is refused. So an entry is stepped as what is decided about it is booked; and a day ends only on figures that the tables take.
 use mathlib.Core.Path.{_≡_, refl, sym, ap, _∙_}
-use mathlib.Core.Bool.{Bool, true, false, true≢false}
+use Prim.Native.Nat.{ℕ}
+use borrow.Author.Tests.{eqb-true}
+use lib.Dec.{eqb}
+use Rattle.terms.specs.declared.refusal.Refusal.the-variants.{OutOfRange}
 use Rattle.entries.specs.declared.entry.Entry.{Entry}
 use Rattle.entries.specs.declared.entry.Entry.the-variants.{Deposit, Withdraw, Lock, Unlock, Order, Fill, Cancel, DayEnd, Underlying, Contract, Opening}
 use Rattle.entries.specs.declared.entry.Figures.{Figures}
-use Rattle.account.specs.Changes.{applied, decided, ofSheet}
-use Rattle.account.specs.Fills.{cancelChange, fillChange, named}
-use Rattle.account.specs.Locks.{lockChange, unlockChange}
-use Rattle.account.specs.Orders.{factsOf, orderChange}
+use Rattle.account.specs.Changes.{applied, decided, ending}
+use Rattle.account.specs.DayEnd.{dayEndVerdict, dayEnded, every, figuresInstalled}
 use Rattle.account.specs.Steps.{accountAfter, outcome, refusalOf, step, tablesAfter}
-use Rattle.account.specs.Transfers.{depositChange, withdrawChange}
 use Rattle.account.specs.declared.account.Account.{Account}
 use Rattle.account.specs.declared.judged.Change.{Change}
 use Rattle.account.specs.declared.judged.Decision.{Decision}
-use Rattle.account.specs.declared.judged.Outcome.{Outcome}
 use Rattle.account.specs.declared.judged.Verdict.{Verdict}
 use Rattle.account.specs.declared.judged.Verdict.the-variants.{Accepted, Refused}
 use Rattle.account.specs.declared.tables.Tables.{Tables}
-use Rattle.steps.specs.Booked.{bookedBy}
-
--- what an entry within the day changes; a day end changes more than one row, and set-up has ended
-abbrev pub changeOf : Tables → Account → Entry → Change
-changeOf t a (Deposit amount) = depositChange (a .sheet) (a .last) amount
-changeOf t a (Withdraw amount) = withdrawChange (a .sheet) (a .last) amount
-changeOf t a (Lock u units) = lockChange a u units
-changeOf t a (Unlock u units) = unlockChange a u units
-changeOf t a (Order o) = orderChange (factsOf t a o) o
-changeOf t a (Fill fill) = fillChange (named t a (fill .number)) fill
-changeOf t a (Cancel number) = cancelChange (named t a number)
-changeOf t a (DayEnd n m) = ofSheet (a .sheet) (a .last)
-changeOf t a (Underlying row) = ofSheet (a .sheet) (a .last)
-changeOf t a (Contract row) = ofSheet (a .sheet) (a .last)
-changeOf t a (Opening cash) = ofSheet (a .sheet) (a .last)
-
-abbrev pub withinDay : Entry → Bool
-withinDay (Deposit amount) = true
-withinDay (Withdraw amount) = true
-withinDay (Lock u units) = true
-withinDay (Unlock u units) = true
-withinDay (Order o) = true
-withinDay (Fill fill) = true
-withinDay (Cancel number) = true
-withinDay (DayEnd n m) = false
-withinDay (Underlying row) = true
-withinDay (Contract row) = true
-withinDay (Opening cash) = true
+use Rattle.account.proofs.Bounds.{four}
+use Rattle.account.proofs.Passed.{went-on}
+use Rattle.day_end.specs.Figures.{FiguresTaken}
+use Rattle.steps.specs.Booked.{Rests, bookedBy, changeOf, decisionOn}
 
 module _ (t : Tables) (a : Account) (f : Figures) where
-  decided-booked : (v : Verdict) (change : Change) → bookedBy t a (decided v change) ≡ outcome v t a t (applied a change)
+  decided-booked : (v : Verdict) (change : Change) → bookedBy t a f (decided v change) ≡ outcome v t a t (applied a change)
   decided-booked Accepted change = refl
   decided-booked (Refused why) change = refl
 
-  by-kind : (entry : Entry) → bookedBy t a (decided (refusalOf t a entry f) (changeOf t a entry)) ≡ outcome (refusalOf t a entry f) t a t (applied a (changeOf t a entry))
+  ending-booked : (v : Verdict) → bookedBy t a f (ending v) ≡ outcome v t a (figuresInstalled t f) (dayEnded (figuresInstalled t f) a)
+  ending-booked Accepted = refl
+  ending-booked (Refused why) = refl
+
+  by-kind : (entry : Entry) → bookedBy t a f (decided (refusalOf t a entry f) (changeOf t a entry)) ≡ outcome (refusalOf t a entry f) t a t (applied a (changeOf t a entry))
   by-kind entry = decided-booked (refusalOf t a entry f) (changeOf t a entry)
 
-  stepped : (entry : Entry) → withinDay entry ≡ true → bookedBy t a (decided (refusalOf t a entry f) (changeOf t a entry)) ≡ step t a entry f
-  unfolding step refusalOf tablesAfter accountAfter
-  stepped (Deposit amount) day = by-kind (Deposit amount)
-  stepped (Withdraw amount) day = by-kind (Withdraw amount)
-  stepped (Lock u units) day = by-kind (Lock u units)
-  stepped (Unlock u units) day = by-kind (Unlock u units)
-  stepped (Order o) day = by-kind (Order o)
-  stepped (Fill fill) day = by-kind (Fill fill)
-  stepped (Cancel number) day = by-kind (Cancel number)
-  stepped (DayEnd n m) day = absurd (true≢false (sym day))
-  stepped (Underlying row) day = refl
-  stepped (Contract row) day = refl
-  stepped (Opening cash) day = refl
+  pub stepped : (entry : Entry) → bookedBy t a f (decisionOn t a entry f) ≡ step t a entry f
+  unfolding decisionOn step refusalOf tablesAfter accountAfter
+  stepped (Deposit amount) = by-kind (Deposit amount)
+  stepped (Withdraw amount) = by-kind (Withdraw amount)
+  stepped (Lock u units) = by-kind (Lock u units)
+  stepped (Unlock u units) = by-kind (Unlock u units)
+  stepped (Order o) = by-kind (Order o)
+  stepped (Fill fill) = by-kind (Fill fill)
+  stepped (Cancel number) = by-kind (Cancel number)
+  stepped (DayEnd n m) = ending-booked (dayEndVerdict t n m f)
+  stepped (Underlying row) = refl
+  stepped (Contract row) = refl
+  stepped (Opening cash) = refl
 
   -- in each arm the entry is known
-  pub for-entry : (entry is : Entry) (r : Outcome) → entry ≡ is → r ≡ step t a is f → r ≡ step t a entry f
-  for-entry entry is r e so = so ∙ sym (ap (λ (any : Entry). step t a any f) e)
+  pub for-entry : (entry is : Entry) (d : Decision) → entry ≡ is → d ≡ decisionOn t a is f → d ≡ decisionOn t a entry f
+  for-entry entry is d e so = so ∙ sym (ap (λ (any : Entry). decisionOn t a any f) e)
 
-  pub as-decided : (entry is : Entry) (d : Decision) (r : Outcome) → entry ≡ is → withinDay is ≡ true → d ≡ decided (refusalOf t a is f) (changeOf t a is) → r ≡ bookedBy t a d → r ≡ step t a entry f
-  as-decided entry is d r e day so booked = for-entry entry is r e (booked ∙ ap (bookedBy t a) so ∙ stepped is day)
+module _ (t : Tables) (f : Figures) where
+  -- an accepted day end has as many rows as the tables
+  rows : (n m : ℕ) → dayEndVerdict t n m f ≡ Accepted → (n ≡ t .n) × (m ≡ t .m)
+  unfolding dayEndVerdict
+  rows n m accepted =
+      let known = four (eqb n (t .n)) (eqb m (t .m)) (every n _) (every m _) (went-on _ OutOfRange Accepted accepted .0) in
+      (eqb-true n (t .n) (known .0), eqb-true m (t .m) (known .1))
+
+  taken : (n m : ℕ) → dayEndVerdict t n m f ≡ Accepted → FiguresTaken t f
+  taken n m accepted =
+      let same = rows n m accepted in
+      ap (λ (n : ℕ). dayEndVerdict t n (t .m) f) (sym (same .0)) ∙ ap (λ (m : ℕ). dayEndVerdict t n m f) (sym (same .1)) ∙ accepted
+
+  decided-rests : (v : Verdict) (change : Change) → Rests t f (decided v change)
+  decided-rests Accepted change = tt
+  decided-rests (Refused why) change = tt
+
+  ending-rests : (v : Verdict) → (v ≡ Accepted → FiguresTaken t f) → Rests t f (ending v)
+  ending-rests Accepted takes = takes refl
+  ending-rests (Refused why) takes = tt
+
+  within : (a : Account) (entry : Entry) → Rests t f (decided (refusalOf t a entry f) (changeOf t a entry))
+  within a entry = decided-rests (refusalOf t a entry f) (changeOf t a entry)
+
+  pub rests : (a : Account) (entry : Entry) → Rests t f (decisionOn t a entry f)
+  unfolding decisionOn refusalOf
+  rests a (Deposit amount) = within a (Deposit amount)
+  rests a (Withdraw amount) = within a (Withdraw amount)
+  rests a (Lock u units) = within a (Lock u units)
+  rests a (Unlock u units) = within a (Unlock u units)
+  rests a (Order o) = within a (Order o)
+  rests a (Fill fill) = within a (Fill fill)
+  rests a (Cancel number) = within a (Cancel number)
+  rests a (DayEnd n m) = ending-rests (dayEndVerdict t n m f) (taken n m)
+  rests a (Underlying row) = tt
+  rests a (Contract row) = tt
+  rests a (Opening cash) = tt

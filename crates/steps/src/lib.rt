@@ -1,10 +1,10 @@
-// One step for every entry: the verdict, and tables and account after it.
+// One step for every entry: it is decided on tables and account, and what is decided is booked.
 use account::Account;
 use account::Decision;
 use account::Outcome;
 use account::Tables;
 use account::Verdict;
-use day_end::day_end;
+use day_end::ended;
 use entries::Entry;
 use entries::Figures;
 use fills::cancel;
@@ -18,42 +18,46 @@ use transfers::withdraw;
 ghost use mathlib.Core.Path.{_≡_};
 ghost use Rattle.account.specs.Sound.{Sound};
 ghost use Rattle.account.specs.Steps.{step};
-ghost use Rattle.steps.specs.Booked.{bookedBy};
+ghost use Rattle.steps.specs.Booked.{Rests, bookedBy, decisionOn};
 
-// Facts are gathered and an entry is decided in the crate of its kind; what it changes is written here. Set-up has ended, so its
-// records are out of their place.
 pub fn step(tables: Tables, account: Account, entry: Entry, figures: Figures) -> Outcome
     requires { ⌜ Sound tables account ⌝ }
     ensures { λ r. ⌜ r ≡ step tables account entry figures ⌝ }
 {
+    let decision = decide(tables, account, entry, figures);
+    booked(tables, account, figures, decision)
+}
+
+// Each kind is decided in its crate. Set-up has ended, so its records are out of their place.
+pub fn decide(tables: Tables, account: Account, entry: Entry, figures: Figures) -> Decision
+    requires { ⌜ Sound tables account ⌝ }
+    ensures { λ r. ⌜ r ≡ decisionOn tables account entry figures ⌝ }
+{
     match entry {
         Entry::Deposit(amount) => {
             let sheet = account.sheet;
-            booked(tables, account, deposit(sheet, account.last, amount))
+            deposit(sheet, account.last, amount)
         }
         Entry::Withdraw(amount) => {
             let sheet = account.sheet;
-            booked(tables, account, withdraw(sheet, account.last, amount))
+            withdraw(sheet, account.last, amount)
         }
-        Entry::Lock { underlying, units } => {
-            booked(tables, account, lock(tables, account, underlying, units))
-        }
-        Entry::Unlock { underlying, units } => {
-            booked(tables, account, unlock(tables, account, underlying, units))
-        }
-        Entry::Order(asked) => booked(tables, account, order(tables, account, asked)),
-        Entry::Fill(asked) => booked(tables, account, fill(tables, account, asked)),
-        Entry::Cancel { number } => booked(tables, account, cancel(tables, account, number)),
-        Entry::DayEnd { n, m } => day_end(tables, account, n, m, figures),
-        Entry::Underlying(_) => out_of_place(tables, account),
-        Entry::Contract(_) => out_of_place(tables, account),
-        Entry::Opening(_) => out_of_place(tables, account),
+        Entry::Lock { underlying, units } => lock(tables, account, underlying, units),
+        Entry::Unlock { underlying, units } => unlock(tables, account, underlying, units),
+        Entry::Order(asked) => order(tables, account, asked),
+        Entry::Fill(asked) => fill(tables, account, asked),
+        Entry::Cancel { number } => cancel(tables, account, number),
+        Entry::DayEnd { n, m } => day_end::decide(tables, n, m, figures),
+        Entry::Underlying(_) => Decision::Refused(Refusal::OutOfPlace),
+        Entry::Contract(_) => Decision::Refused(Refusal::OutOfPlace),
+        Entry::Opening(_) => Decision::Refused(Refusal::OutOfPlace),
     }
 }
 
-// The account with what was decided; a refusal leaves it as it was.
-fn booked(tables: Tables, account: Account, decision: Decision) -> Outcome
-    ensures { λ r. ⌜ r ≡ bookedBy tables account decision ⌝ }
+// The one place where what was decided is written. A refusal leaves tables and account as they were.
+pub fn booked(tables: Tables, account: Account, figures: Figures, decision: Decision) -> Outcome
+    requires { ⌜ Sound tables account × Rests tables figures decision ⌝ }
+    ensures { λ r. ⌜ r ≡ bookedBy tables account figures decision ⌝ }
 {
     match decision {
         Decision::Refused(why) => Outcome {
@@ -66,11 +70,6 @@ fn booked(tables: Tables, account: Account, decision: Decision) -> Outcome
             tables,
             account: account.apply(change),
         },
+        Decision::DayEnds => ended(tables, account, figures),
     }
-}
-
-fn out_of_place(tables: Tables, account: Account) -> Outcome
-    ensures { λ r. ⌜ r ≡ bookedBy tables account (Decision.Refused Refusal.OutOfPlace) ⌝ }
-{
-    booked(tables, account, Decision::Refused(Refusal::OutOfPlace))
 }

@@ -1,25 +1,25 @@
--- `booked` meets its contract: a refusal leaves tables and account as they were, a change is applied.
-use mathlib.Core.Path.{_≡_, refl, sym, ap, _∙_}
-use Rattle.terms.specs.declared.refusal.Refusal.{Refusal}
+-- `booked` meets its contract: a refusal leaves tables and account as they were, a change is applied, and the day ends on figures that the tables take.
+use mathlib.Core.Path.{_≡_, sym, ap, subst, _∙_}
 use borrow.Author.Needs.{needs}
+use Rattle.terms.specs.declared.refusal.Refusal.{Refusal}
+use Rattle.entries.specs.declared.entry.Figures.{Figures}
 use Rattle.account.specs.Changes.{applied}
 use Rattle.account.specs.declared.account.Account.{Account}
 use Rattle.account.specs.declared.judged.Change.{Change}
 use Rattle.account.specs.declared.judged.Decision.{Decision}
 use Rattle.account.specs.declared.judged.Decision.the-variants as Decision·of
-use Rattle.account.specs.declared.judged.Outcome.{Outcome}
 use Rattle.account.specs.declared.judged.Verdict.the-variants.{Accepted, Refused}
 use Rattle.account.specs.declared.tables.Tables.{Tables}
-use Rattle.steps.specs.Booked.{bookedBy}
+use Rattle.steps.specs.Booked.{Rests, bookedBy}
 use Rattle.steps.proofs.booked.Statement.{statement}
 use Rattle.steps.proofs.booked.Tie as tie
 
-module _ (t : Tables) (a : Account) (d : Decision) where
-  refused : (why : Refusal) → d ≡ Decision·of.Refused why → record { verdict = Refused why; tables = t; account = a } ≡ bookedBy t a d
-  refused why e = sym (ap (bookedBy t a) e)
+module _ (t : Tables) (a : Account) (f : Figures) (d : Decision) where
+  refused : (why : Refusal) → d ≡ Decision·of.Refused why → record { verdict = Refused why; tables = t; account = a } ≡ bookedBy t a f d
+  refused why e = sym (ap (bookedBy t a f) e)
 
-  changed : (change : Change) (after : Account) → d ≡ Decision·of.Changes change → after ≡ applied a change → record { verdict = Accepted; tables = t; account = after } ≡ bookedBy t a d
-  changed change after e is = ap (λ (after : Account). record { verdict = Accepted; tables = t; account = after }) is ∙ sym (ap (bookedBy t a) e)
+  changed : (change : Change) (after : Account) → d ≡ Decision·of.Changes change → after ≡ applied a change → record { verdict = Accepted; tables = t; account = after } ≡ bookedBy t a f d
+  changed change after e is = ap (λ (after : Account). record { verdict = Accepted; tables = t; account = after }) is ∙ sym (ap (bookedBy t a f) e)
 
 pub booked-spec : {M : Type 1} → statement M
 booked-spec =
@@ -28,5 +28,12 @@ booked-spec =
     (λ c. search needs)
     (λ c. search needs)
     (λ c κs. tt)
-    (λ c. refused _ _ _ _ (c .before .decision .given .1))
-    (λ c. changed _ _ _ _ _ (c .before .before .decision2 .given .1) (c .apply .ensures)))
+    (λ c. search needs)
+    (λ c κs.
+    let start = c .before .before in
+    (start .pre .0, subst (Rests (start .args .tables) (start .args .figures)) (c .enum-told .given .1) (start .pre .1)))
+    (λ c. refused _ _ _ _ _ (c .before .decision .given .1))
+    (λ c. changed _ _ _ _ _ _ (c .before .before .decision2 .given .1) (c .apply .ensures))
+    (λ c.
+    let start = c .before .before .before .args in
+    c .ended .ensures ∙ sym (ap (bookedBy (start .tables) (start .account) (start .figures)) (c .before .enum-told .given .1))))

@@ -1,4 +1,4 @@
--- `ended` meets its contract: margin and the units that cover are summed over the netted positions, and put together they are the account of the definition.
+-- `account_after` meets its contract: margin and the units that cover are summed over the netted positions, and put together they are the account of the definition.
 use mathlib.Core.Path.{_≡_, refl, sym, ap, subst, _∙_}
 use mathlib.Core.List.{List, map}
 use Prim.Native.Nat.{ℕ, _+_, _≤_}
@@ -20,11 +20,12 @@ use Rattle.account.specs.declared.tables.Tables.{Tables}
 use Rattle.account.proofs.DayEndSound.{holding-after}
 use Rattle.postings.specs.Postings.{posted}
 use Rattle.postings.specs.declared.Posting.the-variants.{DayEnd}
-use Rattle.day_end.specs.Passes.{Summed, ofUnits, marginTo, unitsTo, holdingsTo}
+use Rattle.day_end.specs.Passes.{Summed, ofUnits, marginTo, unitsTo, holdingsTo, workedTo}
+use Rattle.day_end.specs.declared.after.Worked.{Worked}
 use Rattle.day_end.proofs.Listing.{listed-is}
 use Rattle.day_end.proofs.Summed.{positions-summed}
-use Rattle.day_end.proofs.ended.ended.Statement.{statement}
-use Rattle.day_end.proofs.ended.ended.Tie as tie
+use Rattle.day_end.proofs.after.account_after.Statement.{statement}
+use Rattle.day_end.proofs.after.account_after.Tie as tie
 
 module _ (t : Tables) (a : Account) where
   positions-after : dayEnded t a .positions ≡ map netted (a .positions)
@@ -50,39 +51,36 @@ module _ (t : Tables) (a : Account) where
     summed : (ps : List Position) → ps ≡ map netted (a .positions) → Summed t ps
     summed ps e = subst (Summed t) (positions-after ∙ sym e) (positions-summed t (dayEnded t a) sound)
 
-  module _ (ps : List Position) (margin : ℕ) (sheet : Sheet) (holdings : List Holding) (positioned : ps ≡ map netted (a .positions)) (worked : margin ≡ marginTo t ps (t .n)) (joined : sheet ≡ posted (a .sheet) (DayEnd margin))
-      (covered : holdings ≡ holdingsTo t ps (t .n)) where
+  module _ (ps : List Position) (worked : Worked) (sheet : Sheet) (positioned : ps ≡ map netted (a .positions)) (is : worked ≡ workedTo t ps (t .n)) (joined : sheet ≡ posted (a .sheet) (DayEnd (worked .margin))) where
     put-together : (empty : Resting) → empty ≡ free
-        → record { sheet = sheet; positions = ps; orders = replicate 32 empty; holdings = holdings; last = a .last }
+        → record { sheet = sheet; positions = ps; orders = replicate 32 empty; holdings = worked .holdings; last = a .last }
         ≡ dayEnded t a
     unfolding dayEnded unitsReleased dailyZero premiumJoined marginAfresh positionsNetted ordersCancelled marginIn marginTo
     put-together empty none =
-        let worked-netted = worked ∙ ap (λ (ps : List Position). marginTo t ps (t .n)) positioned in
-        let covered-netted = covered ∙ ap (λ (ps : List Position). holdingsTo t ps (t .n)) positioned ∙ sym holdings-after in
+        let netted-so : worked ≡ workedTo t (map netted (a .positions)) (t .n) = is ∙ ap (λ (ps : List Position). workedTo t ps (t .n)) positioned in
         λ i.
         record {
-          sheet = (joined ∙ ap (λ (sum : ℕ). posted (a .sheet) (DayEnd sum)) worked-netted) i;
+          sheet = (joined ∙ ap (λ (w : Worked). posted (a .sheet) (DayEnd (w .margin))) netted-so) i;
           positions = positioned i;
           orders = replicate 32 (none i);
-          holdings = covered-netted i;
+          holdings = (ap (λ (w : Worked). w .holdings) netted-so ∙ sym holdings-after) i;
           last = a .last;
         }
 
 returns : tie.Need-returns
 returns c =
-    let joined = c .before .before in
-    let margin = joined .before in
-    let net = margin .before .before in
+    let joined = c .before in
+    let worked = joined .before .before .before in
+    let net = worked .before in
     let start = net .before .before in
-    put-together (start .args .tables) (start .args .account) _ _ _ _ (net .net-all .ensures) (margin .margin-in .ensures) (joined .posted .ensures) (c .covering .ensures) _ (c .before .free .ensures)
+    put-together (start .args .tables) (start .args .account) _ _ _ (net .net-all .ensures) (worked .work-out .ensures) (joined .posted .ensures) _ (c .free .ensures)
 
-pub ended-spec : {M : Type 1} → statement M
-ended-spec =
+pub account-after-spec : {M : Type 1} → statement M
+account-after-spec =
     tie.close
     (tie.spec
     (λ c κs. rows _ _ (c .before .pre))
-    (λ c κs. summed _ _ (c .before .before .before .pre) _ (c .before .net-all .ensures))
-    (λ c κs. let start = c .before .before .before .before in omega (arith, money _ _ (start .pre)))
+    (λ c κs. summed _ _ (c .before .before .pre) _ (c .net-all .ensures))
+    (λ c κs. let start = c .before .before .before .before .before in omega (arith, money _ _ (start .pre)))
     (λ c κs. search needs)
-    (λ c κs. summed _ _ (c .before .before .before .before .before .before .pre) _ (c .before .before .before .before .net-all .ensures))
     returns)

@@ -1,4 +1,4 @@
--- `verdict` meets its contract: where both counts are the tables' each price is tested, and where one is not nothing else is.
+-- `decide` meets its contract: where both counts are the tables' each price is tested, and where one is not nothing else is.
 use mathlib.Core.Path.{_≡_, refl, sym, ap, _∙_}
 use mathlib.Core.Bool.{Bool, true, false, not, _&&_, _||_, false≢true}
 use Prim.Native.Nat.{ℕ}
@@ -10,15 +10,17 @@ use Rattle.terms.specs.Ranges.{rangeOf, _∈_}
 use Rattle.terms.specs.declared.measure.Measure.the-variants.{Price, Settlement}
 use Rattle.terms.specs.declared.refusal.Refusal.the-variants.{OutOfRange}
 use Rattle.entries.specs.declared.entry.Figures.{Figures}
+use Rattle.account.specs.Changes.{ending}
 use Rattle.account.specs.DayEnd.{every, settlementOf, closeOf, dayEndVerdict}
 use Rattle.account.specs.Verdicts.{_else_then_}
-use Rattle.account.specs.declared.judged.Verdict.the-variants.{Accepted, Refused}
+use Rattle.account.specs.declared.judged.Decision.the-variants as Decision·of
+use Rattle.account.specs.declared.judged.Verdict.the-variants.{Accepted}
 use Rattle.account.specs.declared.tables.Tables.{Tables}
-use Rattle.day_end.proofs.figures.verdict.Statement.{statement}
-use Rattle.day_end.proofs.figures.verdict.Tie as tie
+use Rattle.day_end.proofs.figures.decide.Statement.{statement}
+use Rattle.day_end.proofs.figures.decide.Tie as tie
 
 -- two counts, one of which is wrong, or neither
-one-wrong : (p q r s : Bool) → (not p || not q) ≡ true → Refused OutOfRange ≡ (p && q && r && s else OutOfRange then Accepted)
+one-wrong : (p q r s : Bool) → (not p || not q) ≡ true → Decision·of.Refused OutOfRange ≡ ending (p && q && r && s else OutOfRange then Accepted)
 one-wrong false q r s h = refl
 one-wrong true false r s h = refl
 one-wrong true true r s h = absurd (false≢true h)
@@ -29,7 +31,7 @@ none-wrong true false h = absurd (false≢true (sym h))
 none-wrong true true h = (refl, refl)
 
 module _ (t : Tables) (n m : ℕ) (f : Figures) where
-  miscounted : (not (eqb n (t .n)) || not (eqb m (t .m))) ≡ true → Refused OutOfRange ≡ dayEndVerdict t n m f
+  miscounted : (not (eqb n (t .n)) || not (eqb m (t .m))) ≡ true → Decision·of.Refused OutOfRange ≡ ending (dayEndVerdict t n m f)
   unfolding dayEndVerdict
   miscounted wrong = one-wrong (eqb n (t .n)) (eqb m (t .m)) _ _ wrong
 
@@ -44,11 +46,11 @@ module _ (t : Tables) (n m : ℕ) (f : Figures) where
         → settlements ≡ every n (λ c. settlementOf f c ∈ rangeOf Settlement)
         → closes ≡ every m (λ u. closeOf f u ∈ rangeOf Price)
         → (settlements && closes) ≡ answer
-        → (answer else OutOfRange then Accepted) ≡ dayEndVerdict t n m f
+        → ending (answer else OutOfRange then Accepted) ≡ ending (dayEndVerdict t n m f)
     unfolding dayEndVerdict
     tested settlements closes answer all every-close e =
-        ap (λ (b : Bool). b else OutOfRange then Accepted) (sym e)
-        ∙ (λ i. sym (both .0) i && sym (both .1) i && all i && every-close i else OutOfRange then Accepted)
+        ap (λ (b : Bool). ending (b else OutOfRange then Accepted)) (sym e)
+        ∙ (λ i. ending (sym (both .0) i && sym (both .1) i && all i && every-close i else OutOfRange then Accepted))
 
 sized : tie.Need-slice-aggregate-all-allowed
 sized c = search needs
@@ -82,8 +84,8 @@ returns-3 c =
     let left = settlements .before .before .before .before in
     tested _ _ _ _ (left .if1 .left) _ _ _ (settlements .all-allowed .ensures) (closes .all-allowed2 .ensures) (c .if2 .left)
 
-pub verdict-spec : {M : Type 1} → statement M
-verdict-spec =
+pub decide-spec : {M : Type 1} → statement M
+decide-spec =
     tie.close
     (tie.spec
     (λ c. miscounted _ _ _ _ (c .if1 .taken))

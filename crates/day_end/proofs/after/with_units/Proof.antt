@@ -4,8 +4,8 @@ use Prim.Native.Nat.{_+_}
 use native.Mathlib.Omega.{arith}
 use borrow.Author.Needs.{needs}
 use Rattle.terms.specs.declared.count.Units.{Units}
-use Rattle.day_end.proofs.ended.with_units.Statement.{statement}
-use Rattle.day_end.proofs.ended.with_units.Tie as tie
+use Rattle.day_end.proofs.after.with_units.Statement.{statement}
+use Rattle.day_end.proofs.after.with_units.Tie as tie
 
 add-t6 : tie.Need-add-t6
 add-t6 c =

@@ -1,11 +1,10 @@
--- `covering` meets its contract: a contract's units join its underlying's, and no other underlying's.
+-- A pass finds the units that cover contract by contract: a contract's units join its underlying's, and no other underlying's.
 use mathlib.Core.Path.{_≡_, refl, sym, ap, _∙_}
 use mathlib.Core.Bool.{Bool}
 use mathlib.Core.List.{List}
-use Prim.Native.Nat.{ℕ, _+_, _-_, _^_, _≤_, _<_}
+use Prim.Native.Nat.{ℕ, _+_, _^_, _<_}
 use native.Mathlib.Numerals.{add-one}
 use native.Mathlib.Omega.{arith}
-use borrow.Author.Needs.{needs}
 use borrow.Author.Tests.{eq-eqb, ne-eqb}
 use lib.ListN.{getD, set, replicate}
 use Rattle.terms.specs.Counts.{unitsFor}
@@ -19,9 +18,6 @@ use Rattle.account.specs.declared.tables.Tables.{Tables}
 use Rattle.account.proofs.Listed.{listed-at}
 use Rattle.day_end.specs.Passes.{Summed, ofUnits, unitsTo, withUnits, holdingsTo}
 use Rattle.day_end.proofs.Listing.{listed-set}
-use Rattle.day_end.proofs.Summed.{row-inside}
-use Rattle.day_end.proofs.ended.covering.Statement.{statement}
-use Rattle.day_end.proofs.ended.covering.Tie as tie
 
 module _ (t : Tables) (ps : List Position) where
   -- the contract at k: how many of it are covered, and its underlying
@@ -31,7 +27,7 @@ module _ (t : Tables) (ps : List Position) where
   abbrev of : ℕ → ℕ
   of k = contract t k .underlying
 
-  none : replicate 8 (ofUnits 0) ≡ holdingsTo t ps 0
+  pub none : replicate 8 (ofUnits 0) ≡ holdingsTo t ps 0
   unfolding holdingsTo unitsTo Σ
   none = refl
 
@@ -61,66 +57,11 @@ module _ (t : Tables) (ps : List Position) where
         (λ u there other. ap ofUnits (elsewhere k u other))
 
     module _ (hs : List Holding) (so-far : hs ≡ holdingsTo t ps k) where
-      next : (h : Holding) → h ≡ withUnits (getD hs (of k) noHolding) (covered k) (contract t k .unit) → set hs (of k) h ≡ holdingsTo t ps (k + 1)
+      pub next : (h : Holding) → h ≡ withUnits (getD hs (of k) noHolding) (covered k) (contract t k .unit) → set hs (of k) h ≡ holdingsTo t ps (k + 1)
       next h e = ap (set hs (of k)) e ∙ ap (λ (hs : List Holding). set hs (of k) (withUnits (getD hs (of k) noHolding) (covered k) (contract t k .unit))) so-far ∙ turn
 
-      fits : Summed t ps → k < t .n → withUnits (getD hs (of k) noHolding) (covered k) (contract t k .unit) .locked .0 < 2 ^ 64
+      pub fits : Summed t ps → k < t .n → withUnits (getD hs (of k) noHolding) (covered k) (contract t k .unit) .locked .0 < 2 ^ 64
       fits summed there =
           let most = summed .units (k + 1) (of k) (omega arith) in
           let locked = ap (λ (hs : List Holding). getD hs (of k) noHolding .locked .0) so-far ∙ ap (λ (h : Holding). h .locked .0) held in
           omega (arith, most, locked, here k)
-
-abbrev Inv-loop : tie.InvT-loop
-Inv-loop tables positions n holdings₀ c₀ holdings c = (c ≤ tables .n) × (holdings ≡ holdingsTo tables positions c)
-
-abbrev μ-loop : tie.MeasureT-loop
-μ-loop tables positions n holdings₀ c₀ holdings c = tables .n - c
-
--- what is known at a turn
-module _ (loop : tie.At-loop Inv-loop μ-loop) (there : loop .loop .c < loop .before .args .t1 .n) where
-  few : loop .loop .c < 64
-  few = omega (arith, loop .before .pre .tables .fewContracts)
-
-  inside : contract (loop .before .args .t1) (loop .loop .c) .underlying < 8
-  inside = row-inside _ (loop .before .pre .tables) _ there
-
-with-units-requires : tie.Need-with-units-requires Inv-loop μ-loop
-with-units-requires c κs =
-    let test = c .before .before .before .before in
-    let loop = test .before in
-    let there = test .loop-test .taken in
-    fits _ _ _ (inside loop there) _ (loop .loop .inv .1) (loop .before .pre) there
-
-loop-again : tie.Need-loop-again Inv-loop μ-loop
-loop-again c =
-    let test = c .before .before .before .before .before in
-    let loop = test .before in
-    (omega arith, next _ _ _ (inside loop (test .loop-test .taken)) _ (loop .loop .inv .1) _ (c .with-units .ensures))
-
-returns : tie.Need-returns Inv-loop μ-loop
-returns c =
-    let loop = c .before .loop in
-    let passed : loop .c ≡ c .before .before .args .t1 .n = omega arith in
-    loop .inv .1 ∙ ap (holdingsTo _ _) passed
-
-pub covering-spec : {M : Type 1} → statement M
-covering-spec =
-    tie.close
-    (tie.spec
-    Inv-loop
-    μ-loop
-    (λ c. (omega arith, none _ _))
-    (λ c. omega (arith, few (c .before) (c .loop-test .taken)))
-    (λ c. few (c .before) (c .loop-test .taken))
-    (λ c. let test = c .before in omega (arith, few (test .before) (test .loop-test .taken)))
-    (λ c. let test = c .before in few (test .before) (test .loop-test .taken))
-    (λ c. search needs)
-    (λ c. let test = c .before .before .before in omega (arith, inside (test .before) (test .loop-test .taken)))
-    (λ c. let test = c .before .before .before in inside (test .before) (test .loop-test .taken))
-    with-units-requires
-    (λ c. let test = c .before .before .before .before .before in omega (arith, inside (test .before) (test .loop-test .taken)))
-    (λ c. let test = c .before .before .before .before .before in inside (test .before) (test .loop-test .taken))
-    (λ c. omega arith)
-    (λ c. omega arith)
-    loop-again
-    returns)

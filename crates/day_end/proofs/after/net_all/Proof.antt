@@ -9,8 +9,8 @@ use Rattle.account.specs.Rows.{noPosition}
 use Rattle.account.proofs.Netted.{nothing-netted}
 use Rattle.day_end.specs.Passes.{changedTo}
 use Rattle.day_end.proofs.Listing.{none-changed, one-changed, each-changed}
-use Rattle.day_end.proofs.ended.net_all.Statement.{statement}
-use Rattle.day_end.proofs.ended.net_all.Tie as tie
+use Rattle.day_end.proofs.after.net_all.Statement.{statement}
+use Rattle.day_end.proofs.after.net_all.Tie as tie
 
 abbrev Inv-loop : tie.InvT-loop
 Inv-loop after₀ c₀ after c = (c ≤ 64) × (after ≡ changedTo 64 noPosition (λ i. netted) after₀ c)

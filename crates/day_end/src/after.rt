@@ -17,22 +17,30 @@ ghost use lib.ListN.{length};
 ghost use Rattle.rules.specs.Netting.{netted};
 ghost use Rattle.account.specs.DayEnd.{dayEnded};
 ghost use Rattle.account.specs.Sound.{Sound};
-ghost use Rattle.day_end.specs.Passes.{Summed, holdingsTo, marginTo, withUnits};
+ghost use Rattle.day_end.specs.Passes.{Summed, withUnits, workedTo};
+
+// What a pass over the contracts works out, at the figures of the tables.
+struct Worked {
+    margin: u64,
+    holdings: [Holding; terms::UNDERLYINGS],
+}
 
 // Orders are cancelled and their holds freed, positions netted, margin worked at the new figures; covered premium joins cash, daily
 // counts are zero, and the units that cover stay locked.
-pub(crate) fn ended(tables: Tables, account: Account) -> Account
+pub(crate) fn account_after(tables: Tables, account: Account) -> Account
     requires { ⌜ Sound tables (dayEnded tables account) ⌝ }
     ensures { λ r. ⌜ r ≡ dayEnded tables account ⌝ }
 {
     let before = account.positions;
     let positions = net_all(before);
+    let worked = work_out(tables, positions);
     let sheet = account.sheet;
+    let holdings = worked.holdings;
     Account {
-        sheet: posted(sheet, Posting::DayEnd(margin_in(tables, positions))),
+        sheet: posted(sheet, Posting::DayEnd(worked.margin)),
         positions,
         orders: [Resting::free(); terms::PLACES],
-        holdings: covering(tables, positions),
+        holdings,
         last: account.last,
     }
 }
@@ -50,33 +58,13 @@ fn net_all(positions: [Position; terms::CONTRACTS]) -> [Position; terms::CONTRAC
     after
 }
 
-fn margin_in(tables: Tables, positions: [Position; terms::CONTRACTS]) -> u64
+// The margin, and the units that cover, which stay locked for their underlying.
+fn work_out(tables: Tables, positions: [Position; terms::CONTRACTS]) -> Worked
     requires { ⌜ Summed tables positions ⌝ }
-    ensures { λ r. ⌜ r ≡ marginTo tables positions (tables .n) ⌝ }
+    ensures { λ r. ⌜ r ≡ workedTo tables positions (tables .n) ⌝ }
 {
     let n = tables.n;
-    let mut sum = 0;
-    let mut c = 0;
-    while c < n {
-        let contract = tables.contracts[c];
-        let u = contract.underlying as usize;
-        let row = tables.underlyings[u];
-        let position = positions[c];
-        sum = sum + position.short.0 as u64 * margin_one(contract, row);
-        c += 1;
-    }
-    sum
-}
-
-// The units that cover, found in one pass: each contract's are locked for its underlying.
-fn covering(
-    tables: Tables,
-    positions: [Position; terms::CONTRACTS],
-) -> [Holding; terms::UNDERLYINGS]
-    requires { ⌜ Summed tables positions ⌝ }
-    ensures { λ r. ⌜ r ≡ holdingsTo tables positions (tables .n) ⌝ }
-{
-    let n = tables.n;
+    let mut margin = 0;
     let mut holdings = [Holding {
         locked: Units(0),
         bought: Contracts(0),
@@ -86,10 +74,12 @@ fn covering(
         let contract = tables.contracts[c];
         let position = positions[c];
         let u = contract.underlying as usize;
+        let row = tables.underlyings[u];
+        margin = margin + position.short.0 as u64 * margin_one(contract, row);
         holdings[u] = with_units(holdings[u], position.covered, contract.unit);
         c += 1;
     }
-    holdings
+    Worked { margin, holdings }
 }
 
 fn with_units(holding: Holding, covered: Contracts, unit: u32) -> Holding
