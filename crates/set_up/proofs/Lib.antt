@@ -1,3 +1,4 @@
 -- Laws of a record that is entered, which the proofs of functions and the theorems cite.
+pub mod Booking
 pub mod EnteredSound
 pub mod Entering

@@ -22,7 +22,6 @@ use Rattle.account.specs.declared.judged.Verdict.{Verdict}
 use Rattle.account.specs.declared.judged.Verdict.the-variants.{Accepted, Refused}
 use Rattle.account.specs.declared.tables.Tables.{Tables}
 use Rattle.set_up.specs.declared.stages.Book.{Book}
-use Rattle.set_up.specs.declared.stages.Entered.{Entered}
 use Rattle.set_up.specs.declared.stages.Stage.{Stage}
 use Rattle.set_up.specs.declared.stages.Stage.the-variants.{Underlyings, Contracts, Entries}
 
@@ -104,6 +103,11 @@ withEntry b entry f = record { stage = Entries; tables = tablesAfter (b .tables)
 -- the book after an accepted record, at the stage of its kind (Records)
 unfoldable pub bookAfter : Book → Entry → Figures → Book
 bookAfter b entry f = bySetUp (withUnderlying b) (withContract b) (opened (b .tables)) (withEntry b entry f) entry
+
+-- what a record leads to: the verdict, and the book after it (house)
+pub record Entered : Type 0 where
+  pub verdict : Verdict
+  pub book : Book
 
 -- "only an accepted record moves this order on"; "a refused set-up record takes no number"; "a refusal leaves the whole account equal" (Records; Refusal numbers)
 abbrev pub enteredAs : Verdict → Book → Book → Entered

@@ -1,9 +1,9 @@
 // A book from its first record on: the stages of set-up, what a record comes to at its stage, and the book after it.
-mod ruled;
+mod after;
 mod ruling;
 mod stages;
 
-pub use ruled::ruled;
+pub use after::ruled;
 pub use ruling::Ruling;
 pub use ruling::rule;
 pub use stages::Book;

@@ -7,12 +7,14 @@ use Rattle.terms.specs.declared.refusal.Refusal.the-variants.{OutOfRange}
 use Rattle.entries.specs.declared.entry.Entry.{Entry}
 use Rattle.entries.specs.declared.entry.Entry.the-variants.{Deposit, Withdraw, Lock, Unlock, Order, Fill, Cancel, DayEnd, Underlying, Contract, Opening}
 use Rattle.entries.specs.declared.entry.Figures.{Figures}
-use Rattle.account.specs.Changes.{applied, decided, ending}
+use Rattle.account.specs.Changes.{applied, decided, ending, verdictIn}
 use Rattle.account.specs.DayEnd.{dayEndVerdict, dayEnded, every, figuresInstalled}
 use Rattle.account.specs.Steps.{accountAfter, outcome, refusalOf, step, tablesAfter}
 use Rattle.account.specs.declared.account.Account.{Account}
 use Rattle.account.specs.declared.judged.Change.{Change}
 use Rattle.account.specs.declared.judged.Decision.{Decision}
+use Rattle.account.specs.declared.judged.Decision.the-variants as Decision·of
+use Rattle.account.specs.declared.judged.Outcome.{Outcome}
 use Rattle.account.specs.declared.judged.Verdict.{Verdict}
 use Rattle.account.specs.declared.judged.Verdict.the-variants.{Accepted, Refused}
 use Rattle.account.specs.declared.tables.Tables.{Tables}
@@ -46,6 +48,22 @@ module _ (t : Tables) (a : Account) (f : Figures) where
   stepped (Underlying row) = refl
   stepped (Contract row) = refl
   stepped (Opening cash) = refl
+
+  told : (d : Decision) → bookedBy t a f d .verdict ≡ verdictIn d
+  told (Decision·of.Refused why) = refl
+  told (Decision·of.Changes change) = refl
+  told Decision·of.DayEnds = refl
+
+  outcome-verdict : (v : Verdict) (t' : Tables) (a' : Account) → outcome v t a t' a' .verdict ≡ v
+  outcome-verdict Accepted t' a' = refl
+  outcome-verdict (Refused why) t' a' = refl
+
+  pub verdict-decided : (entry : Entry) → verdictIn (decisionOn t a entry f) ≡ refusalOf t a entry f
+  unfolding step
+  verdict-decided entry =
+      sym (told (decisionOn t a entry f))
+      ∙ ap (λ (o : Outcome). o .verdict) (stepped entry)
+      ∙ outcome-verdict (refusalOf t a entry f) (tablesAfter t entry f) (accountAfter t a entry f)
 
   -- in each arm the entry is known
   pub for-entry : (entry is : Entry) (d : Decision) → entry ≡ is → d ≡ decisionOn t a is f → d ≡ decisionOn t a entry f

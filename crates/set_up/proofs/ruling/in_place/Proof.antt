@@ -3,8 +3,8 @@ use mathlib.Core.Path.{sym, ap}
 use borrow.Author.Needs.{needs}
 use Rattle.set_up.specs.Stages.{inPlace}
 use Rattle.set_up.specs.declared.stages.Stage.{Stage}
-use Rattle.set_up.proofs.stages.in_place.Statement.{statement}
-use Rattle.set_up.proofs.stages.in_place.Tie as tie
+use Rattle.set_up.proofs.ruling.in_place.Statement.{statement}
+use Rattle.set_up.proofs.ruling.in_place.Tie as tie
 
 pub in-place-spec : {M : Type 1} → statement M
 in-place-spec =

@@ -1,0 +1,107 @@
+-- A record ruled and then booked is entered: where a test fails the ruling is the refusal, and the book stays; where all pass it is what the kind adds, and the book is the one after it. What a ruling rests on was tested when it was made.
+use mathlib.Core.Path.{_≡_, refl, sym, ap, subst, _∙_}
+use mathlib.Core.Bool.{Bool, true, false, cond, _&&_}
+use Prim.Native.Nat.{ℕ, _≤_}
+use borrow.Author.Tests.{ltb-true}
+use lib.Dec.{ltb}
+use Rattle.terms.specs.Ranges.{rangeOf, _∈_}
+use Rattle.terms.specs.declared.measure.Measure.the-variants.{OpeningCash}
+use Rattle.terms.specs.declared.refusal.Refusal.the-variants.{OutOfPlace, OutOfRange}
+use Rattle.terms.proofs.Ranges.{second-holds}
+use Rattle.entries.specs.Entries.{kindOf}
+use Rattle.entries.specs.Table.{codeOf}
+use Rattle.entries.specs.declared.entry.Entry as Entry·of
+use Rattle.entries.specs.declared.entry.Figures.{Figures}
+use Rattle.account.specs.Changes.{verdictIn}
+use Rattle.account.specs.Sound.{contractAllowed, underlyingAllowed}
+use Rattle.account.specs.Steps.{accountAfter, outcome, refusalOf, step, tablesAfter}
+use Rattle.account.specs.Verdicts.{_else_then_}
+use Rattle.account.specs.declared.judged.Outcome.{Outcome}
+use Rattle.account.specs.declared.judged.Verdict as Verdict·of
+use Rattle.account.specs.declared.judged.Verdict.the-variants.{Accepted}
+use Rattle.account.specs.declared.judged.Verdict.the-variants as Verdict
+use Rattle.steps.specs.Booked.{decisionOn}
+use Rattle.steps.proofs.Booking.{rests, stepped, verdict-decided}
+use Rattle.set_up.specs.Rulings.{RestsOn, contractRuling, openingRuling, ruledBy, rulingOn, taken, underlyingRuling, verdictOn, withDecision}
+use Rattle.set_up.specs.Stages.{bookAfter, bySetUp, enteredAs, entered, inPlace, opened, recordVerdict, withContract, withEntry, withUnderlying}
+use Rattle.set_up.specs.declared.ruling.Ruling.{Ruling}
+use Rattle.set_up.specs.declared.ruling.Ruling.the-variants.{Refused, Underlying, Contract, Opening, Entry}
+use Rattle.set_up.specs.declared.stages.Book.{Book}
+use Rattle.set_up.specs.declared.stages.Stage.the-variants.{Entries}
+use Rattle.set_up.proofs.Entering.{after-entry, each-entry, entry-verdict, no-set-up, open-stage, verdict}
+
+-- found is what the code found of the test
+pub as-found : (test found : Bool) (ruling : Ruling) {answer : Bool} → found ≡ answer → found ≡ test → taken answer ruling ≡ taken test ruling
+as-found test found ruling e is = ap (λ (passes : Bool). taken passes ruling) (sym e ∙ is)
+
+module _ (b : Book) (f : Figures) where
+  -- what a record in its place comes to
+  abbrev pub by-kind : Entry·of.Entry → Ruling
+  by-kind entry = bySetUp (underlyingRuling (b .tables .m)) (contractRuling (b .tables .m) (b .tables .n)) openingRuling (Entry (decisionOn (b .tables) (b .account) entry f)) entry
+
+  pub entry-ruling : (entry : Entry·of.Entry) → codeOf (kindOf entry) ≤ 8 → Entry (decisionOn (b .tables) (b .account) entry f) ≡ by-kind entry
+  entry-ruling entry few = sym (no-set-up (underlyingRuling (b .tables .m)) (contractRuling (b .tables .m) (b .tables .n)) openingRuling (Entry (decisionOn (b .tables) (b .account) entry f)) entry few)
+
+  -- a ruling tells the verdict, is booked as the book after it, and rests on what it needs
+  record Leads (ruling : Ruling) (v : Verdict·of.Verdict) (after : Book) : Type 0 where
+    told : verdictOn ruling ≡ v
+    booked : ruledBy b f ruling ≡ enteredAs v b after .book
+    rested : RestsOn b f ruling
+
+  row-taken : (passes : Bool) (ruling : Ruling) → verdictOn ruling ≡ Accepted → (passes ≡ true → RestsOn b f ruling) → Leads (taken passes ruling) (passes else OutOfRange then Accepted) (ruledBy b f ruling)
+  row-taken true ruling accepted room = record { told = accepted; booked = refl; rested = room refl }
+  row-taken false ruling accepted room = record { told = refl; booked = refl; rested = tt }
+
+  module _ (entry : Entry·of.Entry) (stands : b .stage ≡ Entries) where
+    abbrev opened-with : Outcome → Book
+    opened-with o = record { stage = Entries; tables = o .tables; account = o .account }
+
+    by-verdict : (v : Verdict·of.Verdict) → opened-with (outcome v (b .tables) (b .account) (tablesAfter (b .tables) entry f) (accountAfter (b .tables) (b .account) entry f)) ≡ enteredAs v b (withEntry b entry f) .book
+    by-verdict Verdict.Accepted = refl
+    by-verdict (Verdict.Refused why) = λ i. record { stage = sym stands i; tables = b .tables; account = b .account }
+
+    entry-leads : Leads (Entry (decisionOn (b .tables) (b .account) entry f)) (refusalOf (b .tables) (b .account) entry f) (withEntry b entry f)
+    unfolding step
+    entry-leads =
+        record {
+          told = verdict-decided (b .tables) (b .account) f entry;
+          booked = ap opened-with (stepped (b .tables) (b .account) f entry) ∙ by-verdict (refusalOf (b .tables) (b .account) entry f);
+          rested = (stands, rests (b .tables) f (b .account) entry);
+        }
+
+  kind-leads : (entry : Entry·of.Entry) → inPlace (b .stage) (codeOf (kindOf entry)) ≡ true → Leads (by-kind entry) (verdict b f entry) (bookAfter b entry f)
+  unfolding bookAfter
+  kind-leads =
+      each-entry (λ entry. inPlace (b .stage) (codeOf (kindOf entry)) ≡ true → Leads (by-kind entry) (verdict b f entry) (bookAfter b entry f))
+      (λ entry few placed.
+      subst (λ (after : Book). Leads (by-kind entry) (verdict b f entry) after) (sym (after-entry b f entry few))
+      (subst (λ (v : Verdict·of.Verdict). Leads (by-kind entry) v (withEntry b entry f)) (sym (entry-verdict b f entry few))
+      (subst (λ (ruling : Ruling). Leads ruling (refusalOf (b .tables) (b .account) entry f) (withEntry b entry f)) (entry-ruling entry few)
+      (entry-leads entry (open-stage (b .stage) (codeOf (kindOf entry)) few placed)))))
+      (λ row placed. row-taken (underlyingAllowed row && ltb (b .tables .m) 8) (Underlying row) refl (λ h. ltb-true _ _ (second-holds (underlyingAllowed row) _ h)))
+      (λ row placed. row-taken (contractAllowed (b .tables .m) row && ltb (b .tables .n) 64) (Contract row) refl (λ h. ltb-true _ _ (second-holds (contractAllowed (b .tables .m) row) _ h)))
+      (λ cash placed. row-taken (cash ∈ rangeOf OpeningCash) (Opening cash) refl (λ h. tt))
+
+module _ (b : Book) (entry : Entry·of.Entry) (f : Figures) where
+  pub in-its-place : inPlace (b .stage) (codeOf (kindOf entry)) ≡ true → by-kind b f entry ≡ rulingOn b entry f
+  unfolding rulingOn
+  in-its-place placed = ap (λ (passes : Bool). cond passes (by-kind b f entry) (Refused OutOfPlace)) (sym placed)
+
+  leads : Leads b f (rulingOn b entry f) (recordVerdict b entry f) (bookAfter b entry f)
+  unfolding rulingOn recordVerdict
+  leads = go (inPlace (b .stage) (codeOf (kindOf entry))) refl
+    where
+      go : (placed : Bool) → inPlace (b .stage) (codeOf (kindOf entry)) ≡ placed
+          → Leads b f (cond placed (by-kind b f entry) (Refused OutOfPlace)) (placed else OutOfPlace then verdict b f entry) (bookAfter b entry f)
+      go true e = kind-leads b f entry e
+      go false e = record { told = refl; booked = refl; rested = tt }
+
+  pub ruling-verdict : verdictOn (rulingOn b entry f) ≡ recordVerdict b entry f
+  ruling-verdict = leads .told
+
+  pub ruled-entered : ruledBy b f (rulingOn b entry f) ≡ entered b entry f .book
+  unfolding entered
+  ruled-entered = leads .booked
+
+  pub ruling-rests : RestsOn b f (rulingOn b entry f)
+  ruling-rests = leads .rested
