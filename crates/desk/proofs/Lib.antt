@@ -1,5 +1,6 @@
 -- What the proofs of a run rest on: what an answer leaves, a run turn by turn, and how many places are enough.
 pub mod Answered
 pub mod Places
+pub mod Ruled
 pub mod Started
 pub mod Turns

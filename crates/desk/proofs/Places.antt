@@ -10,8 +10,7 @@ use lib.ListN.{length}
 use Rattle.reading.specs.Reading.{readAt}
 use Rattle.reader.specs.Reader.{foundAt}
 use Rattle.set_up.specs.declared.stages.Book.{Book}
-use Rattle.desk.specs.Runs.{Ran, _before_, answerTo, ended, runFrom}
-use Rattle.desk.specs.declared.answer.Answered.{Answered}
+use Rattle.desk.specs.Runs.{Answered, Ran, _before_, answerTo, ended, runFrom}
 use Rattle.desk.proofs.Answered.{answer-eight}
 use Rattle.desk.proofs.Turns.{no-byte, rest, turn}
 

@@ -16,8 +16,7 @@ use Rattle.reading.specs.Reading.{readAt}
 use Rattle.reader.specs.Reader.{foundAt}
 use Rattle.account.specs.declared.judged.Verdict.{Verdict}
 use Rattle.set_up.specs.declared.stages.Book.{Book}
-use Rattle.desk.specs.Runs.{Ran, answerTo, ended, _before_, runFrom, told, numbersLeft, sumsLeft}
-use Rattle.desk.specs.declared.answer.Answered.{Answered}
+use Rattle.desk.specs.Runs.{Answered, Ran, answerTo, ended, _before_, runFrom, told, numbersLeft, sumsLeft}
 
 -- what follows an answer
 abbrev pub rest : List ℕ → ℕ → ℕ → Answered → Ran

@@ -1,6 +1,6 @@
 -- A run over the bytes of a list or a book: a refusal number or 0, and available, for each record, one after the other (Records; Figures to meet).
 use Prim.Native.Nat.{ℕ, zero, suc, min}
-use mathlib.Core.Bool.{true, false, cond}
+use mathlib.Core.Bool.{Bool, true, false, cond}
 use mathlib.Core.List.{List, [], _∷_, _++_, map}
 use lib.Dec.{ltb}
 use lib.IntN.{ℤ, pos}
@@ -24,7 +24,6 @@ use Rattle.set_up.specs.declared.stages.Book.{Book}
 use Rattle.set_up.specs.declared.stages.Stage.{Stage}
 use Rattle.set_up.specs.declared.stages.Stage.the-variants.{Underlyings, Contracts, Entries}
 use Rattle.desk.specs.declared.Run.{Run}
-use Rattle.desk.specs.declared.answer.Answered.{Answered}
 
 -- "available (0 before the opening)" (Figures to meet)
 abbrev pub availableAt : Stage → Sheet → ℤ
@@ -34,6 +33,13 @@ availableAt Entries sheet = availableOf sheet
 
 abbrev pub availableIn : Book → ℤ
 availableIn b = availableAt (b .stage) (b .account .sheet)
+
+-- the answer to one record: the refusal number or 0, and available; whether the run ends with it, and the book after it (house)
+pub record Answered : Type 0 where
+  pub number : ℕ
+  pub available : ℤ
+  pub ends : Bool
+  pub book : Book
 
 -- what the record that was read leads to: an entry is entered; "refusals 1 to 3 end the reading of a book" (Refusal numbers)
 abbrev pub answerBy : Book → Figures → Answer → Answered

@@ -8,6 +8,7 @@ ghost use Rattle.desk.specs.Runs.{availableAt};
 
 // 0 before the opening.
 pub(crate) fn available_in(stage: Stage, sheet: Sheet) -> i64
+    requires { ⌜ (stage ≡ Stage.Entries → SoundSheet sheet) ⌝ }
     ensures { λ r. ⌜ r ≡ availableAt stage sheet ⌝ }
 {
     match stage {

@@ -22,9 +22,8 @@ use Rattle.account.specs.Verdicts.{numberIn}
 use Rattle.account.specs.declared.judged.Verdict.{Verdict}
 use Rattle.account.specs.declared.judged.Verdict.the-variants.{Accepted, Refused}
 use Rattle.account.specs.declared.tables.Tables.{Tables}
-use Rattle.set_up.specs.Stages.{entered, opened}
+use Rattle.set_up.specs.Stages.{Entered, entered, opened}
 use Rattle.set_up.specs.declared.stages.Book.{Book}
-use Rattle.set_up.specs.declared.stages.Entered.{Entered}
 use Rattle.set_up.proofs.Entering.{entered-verdict}
 use Rattle.desk.specs.Runs.{Ran, _before_, answerBy, answerTo, availableIn, ended, listBy, runFrom}
 use Rattle.desk.specs.declared.Run.{Run}

@@ -19,9 +19,8 @@ use Rattle.account.specs.declared.judged.Verdict.{Verdict}
 use Rattle.account.specs.declared.judged.Verdict.the-variants.{Accepted, Refused}
 use Rattle.account.specs.declared.tables.Tables.{Tables}
 use Rattle.rows.specs.Given.{listVerdict}
-use Rattle.set_up.specs.Stages.{bookAfter, entered, enteredAs, recordVerdict}
+use Rattle.set_up.specs.Stages.{Entered, bookAfter, entered, enteredAs, recordVerdict}
 use Rattle.set_up.specs.declared.stages.Book.{Book}
-use Rattle.set_up.specs.declared.stages.Entered.{Entered}
 use Rattle.set_up.specs.declared.stages.Stage.the-variants.{Entries}
 use Rattle.desk.specs.Runs.{Ran, listBy, listRun, runFrom}
 use Rattle.demands.specs.Each.{Each}

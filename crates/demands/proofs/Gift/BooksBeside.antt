@@ -26,9 +26,8 @@ use Rattle.account.specs.declared.account.Account.{Account}
 use Rattle.account.specs.declared.judged.Verdict.{Verdict}
 use Rattle.account.specs.declared.judged.Verdict.the-variants.{Accepted}
 use Rattle.account.proofs.Passed.{went-on}
-use Rattle.set_up.specs.Stages.{bookAfter, contractVerdict, entered, enteredAs, inPlace, recordVerdict, underlyingVerdict, withEntry}
+use Rattle.set_up.specs.Stages.{Entered, bookAfter, contractVerdict, entered, enteredAs, inPlace, recordVerdict, underlyingVerdict, withEntry}
 use Rattle.set_up.specs.declared.stages.Book.{Book}
-use Rattle.set_up.specs.declared.stages.Entered.{Entered}
 use Rattle.set_up.specs.declared.stages.Stage.{Stage}
 use Rattle.set_up.specs.declared.stages.Stage.the-variants.{Underlyings, Contracts, Entries}
 use Rattle.set_up.proofs.Entering.{after-entry, each-entry, entered-verdict, entry-verdict, open-stage, verdict}

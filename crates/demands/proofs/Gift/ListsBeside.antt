@@ -29,9 +29,8 @@ use Rattle.account.proofs.Bounds.{four}
 use Rattle.account.proofs.Listed.{all-pass}
 use Rattle.account.proofs.Passed.{went-on}
 use Rattle.rows.specs.Given.{listVerdict, tablesAllowed}
-use Rattle.set_up.specs.Stages.{entered, inPlace, opened, recordVerdict}
+use Rattle.set_up.specs.Stages.{Entered, entered, inPlace, opened, recordVerdict}
 use Rattle.set_up.specs.declared.stages.Book.{Book}
-use Rattle.set_up.specs.declared.stages.Entered.{Entered}
 use Rattle.set_up.specs.declared.stages.Stage.{Stage}
 use Rattle.set_up.specs.declared.stages.Stage.the-variants.{Entries}
 use Rattle.set_up.proofs.Entering.{after-entry, entered-verdict}

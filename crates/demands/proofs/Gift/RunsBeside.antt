@@ -12,9 +12,8 @@ use Rattle.reading.specs.declared.Answer.the-variants as Answer·of
 use Rattle.account.specs.Verdicts.{numberIn}
 use Rattle.account.specs.declared.judged.Verdict.{Verdict}
 use Rattle.account.specs.declared.judged.Verdict.the-variants.{Accepted, Refused}
-use Rattle.set_up.specs.Stages.{entered}
+use Rattle.set_up.specs.Stages.{Entered, entered}
 use Rattle.set_up.specs.declared.stages.Book.{Book}
-use Rattle.set_up.specs.declared.stages.Entered.{Entered}
 use Rattle.desk.specs.Runs.{Ran, ended, runFrom}
 use Rattle.desk.proofs.Turns.{no-byte}
 use Rattle.demands.specs.Each.{Each}
