@@ -19,9 +19,13 @@ use Rattle.orders.proofs.order.Reads as order
 use Rattle.resting.proofs.find.Reads as find
 use Rattle.fills.proofs.fill.Reads as fill
 use Rattle.fills.proofs.cancel.Reads as cancel
-use Rattle.day_end.proofs.day_end.Reads as day-end
+use Rattle.day_end.proofs.decide.Reads as day-end-decide
+use Rattle.day_end.proofs.ended.Reads as ended
+use Rattle.steps.proofs.decide.Reads as decide
+use Rattle.steps.proofs.booked.Reads as booked
 use Rattle.steps.proofs.step.Reads as step
-use Rattle.set_up.proofs.enter.Reads as enter
+use Rattle.set_up.proofs.rule.Reads as rule
+use Rattle.set_up.proofs.ruled.Reads as ruled
 use Rattle.rows.proofs.list_verdict.Reads as list-verdict
 use Rattle.desk.proofs.run_list.Reads as run-list
 use Rattle.desk.proofs.run_book.Reads as run-book
@@ -90,14 +94,26 @@ fill-one κs a r r' s s' p q = p ∙ sym q
 pub cancel-one : (κs : _) (a : _) (r r' : _) (s s' : _) → cancel.Post κs a r s → cancel.Post κs a r' s' → r ≡ r'
 cancel-one κs a r r' s s' p q = p ∙ sym q
 
-pub day-end-one : (κs : _) (a : _) (r r' : _) (s s' : _) → day-end.Post κs a r s → day-end.Post κs a r' s' → r ≡ r'
-day-end-one κs a r r' s s' p q = p ∙ sym q
+pub day-end-decide-one : (κs : _) (a : _) (r r' : _) (s s' : _) → day-end-decide.Post κs a r s → day-end-decide.Post κs a r' s' → r ≡ r'
+day-end-decide-one κs a r r' s s' p q = p ∙ sym q
+
+pub ended-one : (κs : _) (a : _) (r r' : _) (s s' : _) → ended.Post κs a r s → ended.Post κs a r' s' → r ≡ r'
+ended-one κs a r r' s s' p q = p ∙ sym q
+
+pub decide-one : (κs : _) (a : _) (r r' : _) (s s' : _) → decide.Post κs a r s → decide.Post κs a r' s' → r ≡ r'
+decide-one κs a r r' s s' p q = p ∙ sym q
+
+pub booked-one : (κs : _) (a : _) (r r' : _) (s s' : _) → booked.Post κs a r s → booked.Post κs a r' s' → r ≡ r'
+booked-one κs a r r' s s' p q = p ∙ sym q
 
 pub step-one : (κs : _) (a : _) (r r' : _) (s s' : _) → step.Post κs a r s → step.Post κs a r' s' → r ≡ r'
 step-one κs a r r' s s' p q = p ∙ sym q
 
-pub enter-one : (κs : _) (a : _) (r r' : _) (s s' : _) → enter.Post κs a r s → enter.Post κs a r' s' → r ≡ r'
-enter-one κs a r r' s s' p q = p ∙ sym q
+pub rule-one : (κs : _) (a : _) (r r' : _) (s s' : _) → rule.Post κs a r s → rule.Post κs a r' s' → r ≡ r'
+rule-one κs a r r' s s' p q = p ∙ sym q
+
+pub ruled-one : (κs : _) (a : _) (r r' : _) (s s' : _) → ruled.Post κs a r s → ruled.Post κs a r' s' → r ≡ r'
+ruled-one κs a r r' s s' p q = p ∙ sym q
 
 pub list-verdict-one : (κs : _) (a : _) (r r' : _) (s s' : _) → list-verdict.Post κs a r s → list-verdict.Post κs a r' s' → r ≡ r'
 list-verdict-one κs a r r' s s' p q = p ∙ sym q

@@ -12,8 +12,7 @@ use Rattle.reading.specs.Reading.{readAt}
 use Rattle.reader.specs.Reader.{foundAt}
 use Rattle.reading.specs.declared.Reading.{Reading}
 use Rattle.set_up.specs.declared.stages.Book.{Book}
-use Rattle.desk.specs.Runs.{Ran, _before_, answerTo, ended, runFrom}
-use Rattle.desk.specs.declared.answer.Answered as Answer
+use Rattle.desk.specs.Runs.{Answered, Ran, _before_, answerTo, ended, runFrom}
 use Rattle.desk.proofs.Turns.{no-byte, rest, turn}
 
 -- the k-th answer of a run, and what it stands for between two runs
@@ -21,7 +20,7 @@ abbrev said : Ran → ℕ → ℕ × ℤ
 said run k = getD (run .answers) k (0, pos 0)
 
 -- a turn, by whether a byte is left and whether the answer ends the run
-abbrev turned : ℕ → Book → Answer.Answered → Bool → Bool → Ran → Ran
+abbrev turned : ℕ → Book → Answered → Bool → Bool → Ran → Ran
 turned place b answer there ends more = cond there (answer before cond ends (ended place (answer .book)) more) (ended place b)
 
 -- what a record's answer stands for between two runs
@@ -32,7 +31,7 @@ Between Told s run next answer = Told (run .book) (next .book) (readAt s (run .p
 module _ (Start : Book → Type 0) (Told : Book → Book → Reading → ℕ → ℤ → Type 0) (next : (b : Book) (reading : Reading) → Start b → Start (answerTo b reading .book))
     (one : (b : Book) (reading : Reading) → Start b → let answer = answerTo b reading in Told b (answer .book) reading (answer .number) (answer .available)) where
   -- an answer behind the first is one of the rest, where there is a rest
-  behind-first : (s : List ℕ) (place : ℕ) (b : Book) (answer : Answer.Answered) (there ends : Bool) (k : ℕ) (run run' whole : Ran)
+  behind-first : (s : List ℕ) (place : ℕ) (b : Book) (answer : Answered) (there ends : Bool) (k : ℕ) (run run' whole : Ran)
       → let ran : Ran → Ran = turned place b answer there ends in
       (k < length (whole .answers) → Between Told s run run' (said whole k)) → suc k < length (ran whole .answers) → Between Told s (ran run) (ran run') (said (ran whole) (suc k))
   behind-first s place b answer false ends k run run' whole so few = absurd (omega arith)
@@ -74,7 +73,7 @@ as-answered (suc n) s place b =
           ∙ ap (λ (run : Ran). runFrom (length (run .answers)) s place b) (sym whole)
     ]
   where
-    go : (answer : Answer.Answered) (ends : Bool)
+    go : (answer : Answered) (ends : Bool)
         → let more : ℕ → Ran = λ n. runFrom n s (foundAt s place .next) (answer .book) in
         let next : ℕ → Ran = λ n. cond ends (ended place (answer .book)) (more n) in
         more n ≡ more (length (more n .answers)) → next n ≡ next (length (next n .answers))
