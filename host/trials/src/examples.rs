@@ -1,13 +1,18 @@
 //! The books of `examples/`.
 
+use crate::telling::full;
 use plain::entry::Entry;
 use plain::record::written;
 use plain::terms::{Class, Contract, Kind, Right, Underlying};
 use plain::worked;
 
 /// Each by its file's name.
-pub fn books() -> [(&'static str, Vec<u8>); 2] {
-    [("day.book", day()), ("refusals.book", refusals())]
+pub fn books() -> [(&'static str, Vec<u8>); 3] {
+    [
+        ("day.book", day()),
+        ("refusals.book", refusals()),
+        ("full.book", full().bytes),
+    ]
 }
 
 fn day() -> Vec<u8> {

@@ -1,6 +1,7 @@
 //! Telling books, each with the lines that document 01 or plain arithmetic gives for it. None of the lines comes out of a run.
 
 mod endings;
+mod full;
 mod money;
 mod set_up;
 mod sizes;
@@ -10,6 +11,8 @@ use plain::program::lines;
 use plain::record::written;
 use plain::terms::{Class, Contract, Right, Underlying};
 use plain::worked;
+
+pub use full::full;
 
 pub struct Telling {
     pub name: String,
@@ -24,6 +27,7 @@ pub fn books() -> Vec<Telling> {
     books.extend(set_up::books());
     books.extend(money::books());
     books.extend(endings::books());
+    books.push(full());
     books
 }
 

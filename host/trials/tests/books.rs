@@ -51,6 +51,7 @@ fn examples_are_as_written() {
         assert_eq!(example(name), bytes, "{name}");
     }
     assert_eq!(printed(&example("day.book")), worked::LINES);
+    assert_eq!(printed(&example("full.book")), telling::full().lines);
 }
 
 /// The gate runs the program on the same ten records, and holds it to the same ten lines.
@@ -60,12 +61,12 @@ fn the_gate_has_the_worked_book() {
     assert_eq!(example("../crates/book/stdout"), worked::LINES.as_bytes());
 }
 
-/// The lines in the tables of the examples' page are those that are printed.
+/// The lines in the two tables of the examples' page are those that are printed.
 #[test]
 fn examples_are_as_told() {
     let page = String::from_utf8(example("README.md")).unwrap();
     let sections: Vec<&str> = page.split("\n## ").skip(1).collect();
-    assert_eq!(sections.len(), examples::books().len());
+    assert_eq!(sections.len(), 2);
     for section in sections {
         let (name, table) = section.split_once('\n').unwrap();
         let rows = table.lines().filter_map(|row| row.strip_suffix("` |"));

@@ -1,0 +1,20 @@
+# least_stack.sh BOOK: the least stack, in KiB, in which the book program prints what it prints with stack enough, found by halving.
+set -eu
+cd "$(dirname "$0")/.."
+place=$(mktemp -d)
+trap 'rm -rf "$place"' EXIT
+STACK=1024 sh tests/program.sh book <"$1" >"$place/all"
+[ -s "$place/all" ] || { echo "no line is printed for $1" >&2; exit 1; }
+
+# within KIB: whether every line is printed in so much stack. A program that runs out of it is killed.
+within() {
+    STACK=$1 sh tests/program.sh book <"$book" >"$place/some" 2>/dev/null || return 1
+    cmp -s "$place/all" "$place/some"
+}
+
+book=$1 low=8 high=1024
+while [ $((high - low)) -gt 1 ]; do
+    middle=$(((low + high) / 2))
+    if within "$middle"; then high=$middle; else low=$middle; fi
+done
+echo "$high"
