@@ -1,7 +1,7 @@
--- What the program prints is the whole book's lines: 8,192 places are enough for 65,536 bytes, since a record takes 8 at least, so the run is the one with a place for each byte, and its answers are what stands at the start of both slices.
-use mathlib.Core.Path.{_≡_, ap, ap₂, _∙_}
+-- The program's pages are those of the whole book: 8,192 places are enough for 65,536 bytes, since a record takes 8 at least, so the run is the one with a place for each byte, and its answers are what stands at the start of both slices.
+use mathlib.Core.Path.{_≡_, ap, _∙_}
 use mathlib.Core.List.{List, map, _++_}
-use Prim.Native.Nat.{ℕ, _+_, _≤_}
+use Prim.Native.Nat.{ℕ, _≤_}
 use native.Mathlib.Omega.{arith}
 use lib.IntN.{ℤ}
 use lib.ListN.{length, take, drop, length-append, length-map}
@@ -11,7 +11,7 @@ use Rattle.set_up.specs.Stages.{newBook}
 use Rattle.desk.specs.Runs.{Ran, bookRun, numbersLeft, placesIn, sumsLeft, told}
 use Rattle.desk.specs.declared.Run.{Run}
 use Rattle.desk.proofs.Places.{enough, few-answers}
-use Rattle.book.specs.Lines.{linesFrom, printedFor}
+use Rattle.book.specs.Lines.{refusalsFor, sumsFor}
 
 -- the answers stand at the start of what a run leaves in a slice
 module _ {A : Type 0} (ran : Ran) (said : ℕ × ℤ → A) (lent now : List A) (is : now ≡ map said (ran .answers) ++ drop (length (ran .answers)) lent) where
@@ -42,10 +42,13 @@ module _ (s : List ℕ) (numbers₀ numbers : List ℕ) (sums₀ sums : List ℤ
       omega (arith, count, places, few-answers (placesIn numbers₀ sums₀) s 0 newBook),
     )
 
-    pub prints : length s ≤ 65_536 → linesFrom 1 (take (run .answered) numbers) (take (run .answered) sums) ≡ printedFor s
-    unfolding printedFor
-    prints few =
-        let all : ran ≡ bookRun (length s) s = enough (placesIn numbers₀ sums₀) (length s) s newBook (omega (arith, few, places)) (omega arith) in
-        ap₂ (linesFrom 1) (ap (λ (n : ℕ). take n numbers) count ∙ firsts ran (λ answer. answer .0) numbers₀ numbers numbered)
-        (ap (λ (n : ℕ). take n sums) count ∙ firsts ran (λ answer. answer .1) sums₀ sums summed)
-        ∙ ap (λ (r : Ran). linesFrom 1 (map (λ answer. answer .0) (r .answers)) (map (λ answer. answer .1) (r .answers))) all
+    pub are-all : length s ≤ 65_536 → (take (run .answered) numbers ≡ refusalsFor s) × (take (run .answered) sums ≡ sumsFor s)
+    are-all few =
+        let all : ran ≡ bookRun (length s) s = enough (placesIn numbers₀ sums₀) (length s) s newBook (omega (arith, few, places)) (omega arith) in (
+          ap (λ (n : ℕ). take n numbers) count
+              ∙ firsts ran (λ answer. answer .0) numbers₀ numbers numbered
+              ∙ ap (λ (r : Ran). map (λ answer. answer .0) (r .answers)) all,
+          ap (λ (n : ℕ). take n sums) count
+              ∙ firsts ran (λ answer. answer .1) sums₀ sums summed
+              ∙ ap (λ (r : Ran). map (λ answer. answer .1) (r .answers)) all,
+        )

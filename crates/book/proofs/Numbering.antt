@@ -2,7 +2,7 @@
 use mathlib.Core.Path.{_≡_, sym, ap, _∙_}
 use mathlib.Core.List.{List, [], _∷_, _++_, append-nil, append-assoc}
 use Prim.Native.Nat.{ℕ, zero, suc, _+_, _<_}
-use native.Mathlib.Nat.{add-comm, add-zero, add-suc, suc-add}
+use native.Mathlib.Nat.{add-zero, add-suc, suc-add}
 use native.Mathlib.Numerals.{add-one}
 use native.Mathlib.Omega.{arith}
 use lib.IntN.{ℤ, pos}
@@ -22,9 +22,11 @@ one-more-line (suc i) number (r ∷ refusals) (s ∷ sums) h g =
     ∙ ap (λ (n : ℕ). before ++ lineOf n (getD refusals i 0) (getD sums i (pos 0))) (suc-add number i ∙ sym (add-suc number i)))
     ∙ sym (append-assoc (lineOf number r s) before (lineOf (number + suc i) (getD refusals i 0) (getD sums i (pos 0))))
 
-pub next-line : (i : ℕ) (refusals : List ℕ) (sums : List ℤ) → i < length refusals → i < length sums
-    → linesFrom 1 (take (i + 1) refusals) (take (i + 1) sums) ≡ linesFrom 1 (take i refusals) (take i sums) ++ lineOf (i + 1) (getD refusals i 0) (getD sums i (pos 0))
-next-line i refusals sums h g =
-    ap (λ (n : ℕ). linesFrom 1 (take n refusals) (take n sums)) (add-one i)
-    ∙ one-more-line i 1 refusals sums h g
-    ∙ ap (λ (n : ℕ). linesFrom 1 (take i refusals) (take i sums) ++ lineOf n (getD refusals i 0) (getD sums i (pos 0))) (add-comm 1 i)
+pub next-line : (first i : ℕ) (refusals : List ℕ) (sums : List ℤ) → i < length refusals → i < length sums
+    → linesFrom (suc first) (take (i + 1) refusals) (take (i + 1) sums)
+    ≡ linesFrom (suc first) (take i refusals) (take i sums) ++ lineOf (first + i + 1) (getD refusals i 0) (getD sums i (pos 0))
+next-line first i refusals sums h g =
+    let number : suc first + i ≡ first + i + 1 = omega arith in
+    ap (λ (n : ℕ). linesFrom (suc first) (take n refusals) (take n sums)) (add-one i)
+    ∙ one-more-line i (suc first) refusals sums h g
+    ∙ ap (λ (n : ℕ). linesFrom (suc first) (take i refusals) (take i sums) ++ lineOf n (getD refusals i 0) (getD sums i (pos 0))) number

@@ -6,41 +6,64 @@ use libc::STDIN_FILENO;
 use libc::STDOUT_FILENO;
 use text::lines;
 ghost use mathlib.Core.Path.{_≡_};
-ghost use mathlib.Core.List.{_++_};
-ghost use Prim.Native.Nat.{_≤_};
-ghost use lib.ListN.{length, drop};
-ghost use Rattle.io.specs.Counts.{Counts};
-ghost use Rattle.book.specs.Lines.{printedFor};
+ghost use Prim.Native.Nat.{_≤_, min};
+ghost use lib.ListN.{length};
+ghost use Rattle.book.specs.Lines.{pageFrom, printedFor, refusalsFor, sumsFor};
 
 // A record takes 8 bytes at least, so the 65,536 bytes that are read hold no more records than these.
 const RECORDS: usize = 8_192;
 
+// The records whose lines stand on one page: the stack has no room for all lines of a book at once.
+const LINES: usize = 128;
+
 // A line takes 32 bytes at most.
-const PAGE: usize = 32 * RECORDS;
+const PAGE: usize = 32 * LINES;
 
 fn main() {
     let mut buffer = io::large_buffer();
     let n = io::read_full(STDIN_FILENO, &mut buffer);
-    let mut page = page();
-    let k = printed(&buffer[..n], &mut page);
-    io::write_all(STDOUT_FILENO, &page[..k]);
+    print(&buffer[..n]);
 }
 
-fn page() -> [u8; PAGE]
-    ensures { λ r. ⌜ 262_144 ≡ length r ⌝ }
-{
-    [0; PAGE]
-}
-
-// The lines of a book, put at the start of the page; how many bytes they are.
-fn printed(bytes: &[u8], page: &mut [u8; PAGE]) -> usize
+// The lines of a book, written; how many bytes they are.
+fn print(bytes: &[u8]) -> usize
     requires { ⌜ length (now bytes) ≤ 65_536 ⌝ }
-    ensures written { λ r. ⌜ r ≡ length (printedFor (now (bytes .entry))) ⌝ }
-    ensures contents { λ r. ⌜ now (page .exit) ≡ printedFor (now (bytes .entry)) ++ drop r (now (page .entry)) ⌝ }
-    ensures within { λ r. ⌜ Counts r (now (page .exit)) ⌝ }
+    ensures { λ r. ⌜ r ≡ length (printedFor (now (bytes .entry))) ⌝ }
 {
     let mut numbers = [0u8; RECORDS];
     let mut sums = [0i64; RECORDS];
     let run = run_book(bytes, &mut numbers, &mut sums);
-    lines(&numbers, &sums, run.answered, page)
+    let answered = run.answered;
+    pages(bytes, &numbers[..answered], &sums[..answered])
+}
+
+// The lines of a book whose answers are known, written page after page; how many bytes they are.
+fn pages(bytes: &[u8], refusals: &[u8], sums: &[i64]) -> usize
+    requires { ⌜ (now refusals ≡ refusalsFor (now bytes)) × (now sums ≡ sumsFor (now bytes)) × (length (now refusals) ≤ 8_192) ⌝ }
+    ensures { λ r. ⌜ r ≡ length (printedFor (now (bytes .entry))) ⌝ }
+{
+    let mut page = [0u8; PAGE];
+    let mut written = 0;
+    let mut first = 0;
+    while first < refusals.len() {
+        let end = least(first + LINES, refusals.len());
+        let k = lines(first, &refusals[first..end], &sums[first..end], &mut page);
+        put(bytes, first, &page[..k]);
+        written += k;
+        first += LINES;
+    }
+    written
+}
+
+fn least(a: usize, b: usize) -> usize
+    ensures { λ r. ⌜ r ≡ min a b ⌝ }
+{
+    if a < b { a } else { b }
+}
+
+// Nothing is written but the page of the book that comes after its first `first` records.
+fn put(bytes: &[u8], first: usize, page: &[u8])
+    requires { ⌜ now page ≡ pageFrom first (now bytes) ⌝ }
+{
+    io::write_all(STDOUT_FILENO, page);
 }

@@ -2,24 +2,24 @@
 use lines::output::magnitude;
 ghost use mathlib.Core.Path.{_≡_};
 ghost use mathlib.Core.List.{_++_};
-ghost use Prim.Native.Nat.{_+_, _*_, _≤_, _<_};
-ghost use lib.ListN.{length, take, drop};
+ghost use Prim.Native.Nat.{suc, _+_, _*_, _≤_, _<_};
+ghost use lib.ListN.{length, drop};
 ghost use lib.Seq.{sets};
 ghost use Rattle.io.specs.Counts.{Counts};
 ghost use Rattle.book.specs.Lines.{lineOf, linesFrom};
 ghost use Rattle.book.specs.Lines.{decimal as Lines·decimal, signed as Lines·signed};
 
-// The lines of the first `count` records; how many bytes they are. A line whose number has at most six digits is at most 32 bytes long.
-pub(crate) fn lines(refusals: &[u8], sums: &[i64], count: usize, out: &mut [u8]) -> usize
-    requires { ⌜ (count ≤ length (now refusals)) × (count ≤ length (now sums)) × (count < 1_000_000) × (32 * count ≤ length (now out)) ⌝ }
-    ensures written { λ r. ⌜ r ≡ length (linesFrom 1 (take count (now (refusals .entry))) (take count (now (sums .entry)))) ⌝ }
-    ensures contents { λ r. ⌜ now (out .exit) ≡ linesFrom 1 (take count (now (refusals .entry))) (take count (now (sums .entry))) ++ drop r (now (out .entry)) ⌝ }
+// The lines of records after the first `first` ones; how many bytes they are. A line whose number has at most six digits is at most 32 bytes long.
+pub(crate) fn lines(first: usize, refusals: &[u8], sums: &[i64], out: &mut [u8]) -> usize
+    requires { ⌜ (length (now refusals) ≡ length (now sums)) × (first + length (now refusals) < 1_000_000) × (32 * length (now refusals) ≤ length (now out)) ⌝ }
+    ensures written { λ r. ⌜ r ≡ length (linesFrom (suc first) (now (refusals .entry)) (now (sums .entry))) ⌝ }
+    ensures contents { λ r. ⌜ now (out .exit) ≡ linesFrom (suc first) (now (refusals .entry)) (now (sums .entry)) ++ drop r (now (out .entry)) ⌝ }
     ensures within { λ r. ⌜ Counts r (now (out .exit)) ⌝ }
 {
     let mut at = 0;
     let mut i = 0;
-    while i < count {
-        at = line(out, at, i + 1, refusals[i], sums[i]);
+    while i < refusals.len() {
+        at = line(out, at, first + i + 1, refusals[i], sums[i]);
         i += 1;
     }
     at

@@ -7,7 +7,7 @@ use entries::Contract;
 use terms::Position;
 ghost use mathlib.Core.Path.{_≡_};
 ghost use Rattle.account.specs.Sound.{Sound};
-ghost use Rattle.totals.specs.Gathered.{heldFits, heldIn, heldWith};
+ghost use Rattle.totals.specs.Gathered.{HeldSmall, heldFits, heldIn, heldTo, heldWith};
 
 // Sums over the underlying's contracts: three of contracts, one of units.
 pub struct Held {
@@ -21,7 +21,21 @@ pub fn held_in(tables: Tables, account: Account, underlying: u16) -> Held
     requires { ⌜ Sound tables account ⌝ }
     ensures { λ r. ⌜ r ≡ heldIn tables account underlying ⌝ }
 {
-    let n = tables.n;
+    let contracts = tables.contracts;
+    let positions = account.positions;
+    held_over(tables.n, contracts, positions, underlying)
+}
+
+// Only what is read is passed on: a copy of the whole account would lie on the stack for each sum.
+fn held_over(
+    n: usize,
+    contracts: [Contract; terms::CONTRACTS],
+    positions: [Position; terms::CONTRACTS],
+    underlying: u16,
+) -> Held
+    requires { ⌜ HeldSmall n contracts positions underlying ⌝ }
+    ensures { λ r. ⌜ r ≡ heldTo n contracts positions underlying ⌝ }
+{
     let mut held = Held {
         long: 0,
         short: 0,
@@ -30,8 +44,8 @@ pub fn held_in(tables: Tables, account: Account, underlying: u16) -> Held
     };
     let mut c = 0;
     while c < n {
-        let contract = tables.contracts[c];
-        let position = account.positions[c];
+        let contract = contracts[c];
+        let position = positions[c];
         held = with_contract(held, contract, position, underlying);
         c += 1;
     }

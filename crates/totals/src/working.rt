@@ -8,7 +8,7 @@ use entries::Contract;
 ghost use mathlib.Core.Path.{_≡_};
 ghost use Rattle.account.specs.Sound.{Sound};
 ghost use Rattle.account.specs.Totals.{isOpen};
-ghost use Rattle.totals.specs.Gathered.{workingFits, workingIn, workingWith};
+ghost use Rattle.totals.specs.Gathered.{WorkingSmall, workingFits, workingIn, workingTo, workingWith};
 
 // Sums over the resting orders: buy opens and all opens in the underlying, those of one kind on one contract, reserved units.
 pub struct Working {
@@ -28,6 +28,22 @@ pub fn working_in(
     requires { ⌜ Sound tables account ⌝ }
     ensures { λ r. ⌜ r ≡ workingIn tables account underlying contract kind ⌝ }
 {
+    let contracts = tables.contracts;
+    let orders = account.orders;
+    working_over(contracts, orders, underlying, contract, kind)
+}
+
+// Only what is read is passed on, as for what is held.
+fn working_over(
+    contracts: [Contract; terms::CONTRACTS],
+    orders: [Resting; terms::PLACES],
+    underlying: u16,
+    contract: u16,
+    kind: u16,
+) -> Working
+    requires { ⌜ WorkingSmall contracts orders underlying contract kind ⌝ }
+    ensures { λ r. ⌜ r ≡ workingTo 32 contracts orders underlying contract kind ⌝ }
+{
     let mut working = Working {
         buys: 0,
         opens: 0,
@@ -36,9 +52,9 @@ pub fn working_in(
     };
     let mut i = 0;
     while i < terms::PLACES {
-        let order = account.orders[i];
+        let order = orders[i];
         let c = order.contract as usize;
-        let row = tables.contracts[c];
+        let row = contracts[c];
         working = with_order(working, row, order, underlying, contract, kind);
         i += 1;
     }
