@@ -1,14 +1,13 @@
--- Pages one after the other are all that is printed: the lines after some records are the page that comes next and the lines after that page.
+-- What is printed goes page by page: the lines after some records are the page that comes next and the lines after that page.
 use mathlib.Core.Path.{_≡_, refl, sym, ap, _∙_}
 use mathlib.Core.List.{List, [], _∷_, _++_, append-assoc}
 use Prim.Native.Nat.{ℕ, zero, suc, _+_, _*_, _-_, _≤_, min}
 use native.Mathlib.Nat.{add-zero, add-suc, suc-add}
 use native.Mathlib.Omega.{arith}
 use lib.IntN.{ℤ}
-use lib.ListN.{length, take, drop, drop-of-length-le, length-drop, length-map}
-use lib.Seq.{drop-drop, take-nil}
-use Rattle.desk.specs.Runs.{bookRun}
-use Rattle.book.specs.Lines.{lineOf, linesFrom, pageFrom, pagesFrom, printedFor, refusalsFor, sumsFor}
+use lib.ListN.{length, take, drop, drop-of-length-le, length-drop}
+use lib.Seq.{drop-append-seam, drop-drop, take-append-seam, take-nil}
+use Rattle.book.specs.Lines.{lineOf, linesFrom, printedFor, refusalsFor, sumsFor}
 
 -- a part that ends where the list does, if that is sooner
 as-many : {A : Type 0} (m n : ℕ) (l : List A) → m ≡ min n (length l) → take m l ≡ take n l
@@ -38,6 +37,10 @@ split (suc n) number (r ∷ refusals) (s ∷ sums) =
     (split n (suc number) refusals sums ∙ ap (λ (k : ℕ). front ++ linesFrom k (drop n refusals) (drop n sums)) (suc-add number n ∙ sym (add-suc number n)))
     ∙ sym (append-assoc (lineOf number r s) front (linesFrom (number + suc n) (drop n refusals) (drop n sums)))
 
+-- one page: the lines of the 128 records after the first ones, or of as many as are left
+unfoldable pub pageFrom : ℕ → List ℕ → List ℕ
+pageFrom first s = linesFrom (suc first) (take 128 (drop first (refusalsFor s))) (take 128 (drop first (sumsFor s)))
+
 -- the lines of the records after the first ones
 unfoldable pub linesAfter : ℕ → List ℕ → List ℕ
 linesAfter first s = linesFrom (suc first) (drop first (refusalsFor s)) (drop first (sumsFor s))
@@ -54,12 +57,15 @@ pub from-the-first : (s : List ℕ) → linesAfter 0 s ≡ printedFor s
 unfolding linesAfter printedFor
 from-the-first s = refl
 
-pages-from : (count first : ℕ) (s : List ℕ) → length (refusalsFor s) ≤ first + 128 * count → pagesFrom count first s ≡ linesAfter first s
-unfolding pagesFrom
-pages-from zero first s all = sym (none-left first s (omega arith))
-pages-from (suc count) first s all =
-    ap (λ (l : List ℕ). pageFrom first s ++ l) (pages-from count (first + 128) s (omega arith)) ∙ sym (next-page first s)
+-- what is printed behind the bytes that were written: the page that comes next, and behind it the lines after that page
+module _ (written first : ℕ) (s : List ℕ) (so-far : drop written (printedFor s) ≡ linesAfter first s) where
+  both : drop written (printedFor s) ≡ pageFrom first s ++ linesAfter (first + 128) s
+  both = so-far ∙ next-page first s
 
-pub pages-are-all : (count : ℕ) (s : List ℕ) → length (bookRun (length s) s .answers) ≤ 128 * count → pagesFrom count 0 s ≡ printedFor s
-pages-are-all count s all =
-    pages-from count 0 s (omega (arith, length-map (bookRun (length s) s .answers) (λ answer. answer .0))) ∙ from-the-first s
+  pub page-next : take (length (pageFrom first s)) (drop written (printedFor s)) ≡ pageFrom first s
+  page-next = ap (take (length (pageFrom first s))) both ∙ take-append-seam (pageFrom first s) (linesAfter (first + 128) s)
+
+  pub page-passed : drop (written + length (pageFrom first s)) (printedFor s) ≡ linesAfter (first + 128) s
+  page-passed =
+      let k = length (pageFrom first s) in
+      sym (drop-drop k written (printedFor s)) ∙ ap (drop k) both ∙ drop-append-seam (pageFrom first s) (linesAfter (first + 128) s)

@@ -4,7 +4,7 @@ use mathlib.Core.Bool.{cond}
 use mathlib.Core.List.{List, [], _∷_, _++_, map}
 use lib.Dec.{ltb}
 use lib.IntN.{ℤ, pos, negsuc}
-use lib.ListN.{length, take, drop}
+use lib.ListN.{length}
 use Rattle.desk.specs.Runs.{bookRun}
 
 -- a digit, a space, a minus and the end of a line, as ASCII (house)
@@ -44,24 +44,13 @@ linesFrom number [] sums = []
 linesFrom number (refusal ∷ refusals) [] = []
 linesFrom number (refusal ∷ refusals) (available ∷ sums) = lineOf number refusal available ++ linesFrom (suc number) refusals sums
 
--- what is printed for a book's bytes; with a place for each byte no record goes without an answer (Figures to meet)
-unfoldable pub printedFor : List ℕ → List ℕ
-printedFor s =
-    let answers = bookRun (length s) s .answers in
-    linesFrom 1 (map (λ answer. answer .0) answers) (map (λ answer. answer .1) answers)
-
--- the numbers and the sums that a book's records are answered with (Figures to meet)
+-- the numbers and the sums that a book's records are answered with; with a place for each byte no record goes without an answer (Figures to meet)
 abbrev pub refusalsFor : List ℕ → List ℕ
 refusalsFor s = map (λ answer. answer .0) (bookRun (length s) s .answers)
 
 abbrev pub sumsFor : List ℕ → List ℤ
 sumsFor s = map (λ answer. answer .1) (bookRun (length s) s .answers)
 
--- one page of what is printed: the lines of the 128 records after the first ones, or of as many as are left (house)
-unfoldable pub pageFrom : ℕ → List ℕ → List ℕ
-pageFrom first s = linesFrom (suc first) (take 128 (drop first (refusalsFor s))) (take 128 (drop first (sumsFor s)))
-
--- pages one after the other (house)
-unfoldable pub pagesFrom : ℕ → ℕ → List ℕ → List ℕ
-pagesFrom zero first s = []
-pagesFrom (suc count) first s = pageFrom first s ++ pagesFrom count (first + 128) s
+-- what is printed for a book's bytes (Figures to meet)
+unfoldable pub printedFor : List ℕ → List ℕ
+printedFor s = linesFrom 1 (refusalsFor s) (sumsFor s)

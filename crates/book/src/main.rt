@@ -7,8 +7,8 @@ use libc::STDOUT_FILENO;
 use text::lines;
 ghost use mathlib.Core.Path.{_≡_};
 ghost use Prim.Native.Nat.{_≤_, min};
-ghost use lib.ListN.{length};
-ghost use Rattle.book.specs.Lines.{pageFrom, printedFor, refusalsFor, sumsFor};
+ghost use lib.ListN.{length, take, drop};
+ghost use Rattle.book.specs.Lines.{printedFor, refusalsFor, sumsFor};
 
 // A record takes 8 bytes at least, so the 65,536 bytes that are read hold no more records than these.
 const RECORDS: usize = 8_192;
@@ -48,7 +48,7 @@ fn pages(bytes: &[u8], refusals: &[u8], sums: &[i64]) -> usize
     while first < refusals.len() {
         let end = least(first + LINES, refusals.len());
         let k = lines(first, &refusals[first..end], &sums[first..end], &mut page);
-        put(bytes, first, &page[..k]);
+        put(bytes, written, &page[..k]);
         written += k;
         first += LINES;
     }
@@ -61,9 +61,9 @@ fn least(a: usize, b: usize) -> usize
     if a < b { a } else { b }
 }
 
-// Nothing is written but the page of the book that comes after its first `first` records.
-fn put(bytes: &[u8], first: usize, page: &[u8])
-    requires { ⌜ now page ≡ pageFrom first (now bytes) ⌝ }
+// Nothing is written but what is printed for the book, from behind the bytes that were written before.
+fn put(bytes: &[u8], written: usize, page: &[u8])
+    requires { ⌜ now page ≡ take (length (now page)) (drop written (printedFor (now bytes))) ⌝ }
 {
     io::write_all(STDOUT_FILENO, page);
 }

@@ -8,14 +8,14 @@ use lib.IntN.{ℤ}
 use lib.ListN.{length, take, drop, length-append, length-drop, length-map, length-take}
 use lib.Seq.{take-at}
 use Rattle.desk.specs.Runs.{bookRun}
-use Rattle.book.specs.Lines.{linesFrom, pageFrom, printedFor}
-use Rattle.book.proofs.Paging.{from-the-first, linesAfter, next-page, none-left, part}
+use Rattle.book.specs.Lines.{linesFrom, printedFor}
+use Rattle.book.proofs.Paging.{from-the-first, linesAfter, next-page, none-left, page-next, page-passed, pageFrom, part}
 use Rattle.book.proofs.pages.Statement.{statement}
 use Rattle.book.proofs.pages.Tie as tie
 
 abbrev Inv-loop : tie.InvT-loop
 Inv-loop bytes refusals sums page₀ written₀ first₀ page written first =
-    (written + length (linesAfter first bytes) ≡ length (printedFor bytes)) × (written ≤ 32 * first) × (length page ≡ 4_096)
+    (written + length (linesAfter first bytes) ≡ length (printedFor bytes)) × (written ≤ 32 * first) × (length page ≡ 4_096) × (drop written (printedFor bytes) ≡ linesAfter first bytes)
 
 abbrev μ-loop : tie.MeasureT-loop
 μ-loop bytes refusals sums page₀ written₀ first₀ page written first = length refusals - first
@@ -26,7 +26,7 @@ same-count start =
     ap length (start .pre .0) ∙ length-map answers (λ answer. answer .0) ∙ sym (ap length (start .pre .1) ∙ length-map answers (λ answer. answer .1))
 
 loop-holds : tie.Need-loop-holds Inv-loop μ-loop
-loop-holds c = (omega (arith, ap length (from-the-first (c .before .before .args .bytes .now))), search needs, search needs)
+loop-holds c = let all = from-the-first (c .before .before .args .bytes .now) in (omega (arith, ap length all), search needs, search needs, sym all)
 
 lines-requires : tie.Need-lines-requires Inv-loop μ-loop
 lines-requires c κs =
@@ -64,14 +64,15 @@ module _ (c : tie.After-lines Inv-loop μ-loop) where
 put-requires : tie.Need-put-requires Inv-loop μ-loop
 put-requires c κs =
     let put = c .before .before in
-    ap (take (put .lines .result)) (put .lines .ensures .1 .0) ∙ take-at (shown put) _ (put .lines .result) (sym (put .lines .ensures .0)) ∙ is-page put
+    let page = ap (take (put .lines .result)) (put .lines .ensures .1 .0) ∙ take-at (shown put) _ (put .lines .result) (sym (put .lines .ensures .0)) ∙ is-page put in
+    page ∙ sym (ap (λ (k : ℕ). take k (drop (loop put .loop .written) (printedFor (bytes put)))) (ap length page) ∙ page-next (loop put .loop .written) (first put) (bytes put) (loop put .loop .inv .3))
 
 loop-again : tie.Need-loop-again Inv-loop μ-loop
 loop-again c =
     let put = c .before .before .before in
     let long = put .lines .ensures .0 ∙ ap length (is-page put) in
     let next = ap length (next-page (first put) (bytes put)) ∙ length-append (pageFrom (first put) (bytes put)) (linesAfter (first put + 128) (bytes put)) in
-    (omega arith, omega arith, omega arith)
+    (omega arith, omega arith, omega arith, ap (λ (k : ℕ). drop (loop put .loop .written + k) (printedFor (bytes put))) long ∙ page-passed (loop put .loop .written) (first put) (bytes put) (loop put .loop .inv .3))
 
 returns : tie.Need-returns Inv-loop μ-loop
 returns c =
