@@ -1,4 +1,4 @@
--- What the proofs of a run rest on: what an answer leaves, a run turn by turn, and how many places are enough.
+-- What the proofs of a run rest on: what an answer leaves and how a ruling gives it, a run turn by turn, and how many places are enough.
 pub mod Answered
 pub mod Places
 pub mod Ruled

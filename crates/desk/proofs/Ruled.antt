@@ -18,7 +18,7 @@ use Rattle.set_up.specs.declared.ruling.Ruling.the-variants as Ruling·of
 use Rattle.set_up.specs.declared.stages.Book.{Book}
 use Rattle.set_up.proofs.Booking.{ruled-entered, ruling-rests, ruling-verdict}
 use Rattle.set_up.proofs.Entering.{entered-verdict}
-use Rattle.desk.specs.Runs.{Answered, answerBy, answerTo, availableIn}
+use Rattle.desk.specs.Runs.{answerBy, answerTo, availableIn}
 use Rattle.desk.proofs.Answered.{answer-eight}
 
 module _ (b : Book) (f : Figures) where

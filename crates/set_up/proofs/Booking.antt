@@ -1,7 +1,7 @@
 -- A record ruled and then booked is entered: where a test fails the ruling is the refusal, and the book stays; where all pass it is what the kind adds, and the book is the one after it. What a ruling rests on was tested when it was made.
 use mathlib.Core.Path.{_≡_, refl, sym, ap, subst, _∙_}
 use mathlib.Core.Bool.{Bool, true, false, cond, _&&_}
-use Prim.Native.Nat.{ℕ, _≤_}
+use Prim.Native.Nat.{_≤_}
 use borrow.Author.Tests.{ltb-true}
 use lib.Dec.{ltb}
 use Rattle.terms.specs.Ranges.{rangeOf, _∈_}
@@ -12,7 +12,6 @@ use Rattle.entries.specs.Entries.{kindOf}
 use Rattle.entries.specs.Table.{codeOf}
 use Rattle.entries.specs.declared.entry.Entry as Entry·of
 use Rattle.entries.specs.declared.entry.Figures.{Figures}
-use Rattle.account.specs.Changes.{verdictIn}
 use Rattle.account.specs.Sound.{contractAllowed, underlyingAllowed}
 use Rattle.account.specs.Steps.{accountAfter, outcome, refusalOf, step, tablesAfter}
 use Rattle.account.specs.Verdicts.{_else_then_}
@@ -22,8 +21,8 @@ use Rattle.account.specs.declared.judged.Verdict.the-variants.{Accepted}
 use Rattle.account.specs.declared.judged.Verdict.the-variants as Verdict
 use Rattle.steps.specs.Booked.{decisionOn}
 use Rattle.steps.proofs.Booking.{rests, stepped, verdict-decided}
-use Rattle.set_up.specs.Rulings.{RestsOn, contractRuling, openingRuling, ruledBy, rulingOn, taken, underlyingRuling, verdictOn, withDecision}
-use Rattle.set_up.specs.Stages.{bookAfter, bySetUp, enteredAs, entered, inPlace, opened, recordVerdict, withContract, withEntry, withUnderlying}
+use Rattle.set_up.specs.Rulings.{RestsOn, contractRuling, openingRuling, ruledBy, rulingOn, taken, underlyingRuling, verdictOn}
+use Rattle.set_up.specs.Stages.{bookAfter, bySetUp, enteredAs, entered, inPlace, recordVerdict, withEntry}
 use Rattle.set_up.specs.declared.ruling.Ruling.{Ruling}
 use Rattle.set_up.specs.declared.ruling.Ruling.the-variants.{Refused, Underlying, Contract, Opening, Entry}
 use Rattle.set_up.specs.declared.stages.Book.{Book}

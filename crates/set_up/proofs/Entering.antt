@@ -1,11 +1,9 @@
 -- A record goes by its verdict: a check that fails refuses it and leaves the book as it was, and where none fails the book is the one after it. An entry, whose number is at most 8, is in its place only in an open book, and goes by what is said of all kinds but set-up's.
-use mathlib.Core.Path.{_≡_, refl, sym, ap, _∙_}
-use mathlib.Core.Bool.{Bool, true, false, not}
+use mathlib.Core.Path.{_≡_, refl}
+use mathlib.Core.Bool.{true}
 use Prim.Native.Nat.{ℕ, _≤_}
 use native.Mathlib.Omega.{arith}
-use borrow.Author.Tests.{not-true, not-false}
 use Rattle.terms.specs.Ranges.{_to_}
-use Rattle.terms.specs.declared.refusal.Refusal.{Refusal}
 use Rattle.terms.proofs.Ranges.{inside}
 use Rattle.entries.specs.Entries.{kindOf}
 use Rattle.entries.specs.Table.{codeOf}
@@ -15,10 +13,9 @@ use Rattle.entries.specs.declared.entry.Entry.the-variants.{Deposit, Withdraw, 
 use Rattle.entries.specs.declared.entry.Figures.{Figures}
 use Rattle.entries.specs.declared.entry.Underlying as Underlyings·of
 use Rattle.account.specs.Steps.{refusalOf}
-use Rattle.account.specs.Verdicts.{_else_then_}
 use Rattle.account.specs.declared.judged.Verdict.{Verdict}
 use Rattle.account.specs.declared.judged.Verdict.the-variants.{Accepted, Refused}
-use Rattle.set_up.specs.Stages.{Entered, bookAfter, bySetUp, contractVerdict, entered, enteredAs, inPlace, opened, openingVerdict, recordVerdict, underlyingVerdict, withContract, withEntry, withUnderlying}
+use Rattle.set_up.specs.Stages.{bookAfter, bySetUp, contractVerdict, entered, enteredAs, inPlace, opened, openingVerdict, recordVerdict, underlyingVerdict, withContract, withEntry, withUnderlying}
 use Rattle.set_up.specs.declared.stages.Book.{Book}
 use Rattle.set_up.specs.declared.stages.Stage.{Stage}
 use Rattle.set_up.specs.declared.stages.Stage.the-variants.{Underlyings, Contracts, Entries}

@@ -1,2 +1,2 @@
--- What booking a decision comes to, which the proof of the step cites.
+-- What a decision comes to when it is booked, which the proofs of the step and of a ruling cite.
 pub mod Booking

@@ -1,2 +1,2 @@
--- What booking a decision leads to; the rules are in `account`.
+-- What is decided about an entry, and what booking it leads to; the rules are in `account`.
 pub mod Booked

@@ -1,6 +1,5 @@
 -- `step` meets its contract: what is decided about the entry is booked.
 use mathlib.Core.Path.{_∙_, ap, sym, subst}
-use Rattle.account.specs.declared.judged.Decision.{Decision}
 use Rattle.steps.specs.Booked.{Rests, bookedBy}
 use Rattle.steps.proofs.Booking.{rests, stepped}
 use Rattle.steps.proofs.step.Statement.{statement}

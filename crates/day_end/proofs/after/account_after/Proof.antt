@@ -1,7 +1,7 @@
 -- `account_after` meets its contract: margin and the units that cover are summed over the netted positions, and put together they are the account of the definition.
 use mathlib.Core.Path.{_≡_, refl, sym, ap, subst, _∙_}
 use mathlib.Core.List.{List, map}
-use Prim.Native.Nat.{ℕ, _+_, _≤_}
+use Prim.Native.Nat.{_+_, _≤_}
 use native.Mathlib.Omega.{arith}
 use borrow.Author.Needs.{needs}
 use lib.ListN.{length, length-map, replicate}
@@ -13,7 +13,6 @@ use Rattle.account.specs.Rows.{free, noHolding}
 use Rattle.account.specs.Sound.{Sound}
 use Rattle.account.specs.Totals.{coveredUnits}
 use Rattle.account.specs.declared.account.Account.{Account}
-use Rattle.account.specs.declared.account.Holding.{Holding}
 use Rattle.account.specs.declared.account.Resting.{Resting}
 use Rattle.account.specs.declared.account.Sheet.{Sheet}
 use Rattle.account.specs.declared.tables.Tables.{Tables}

@@ -1,7 +1,6 @@
 -- `ruled` meets its contract: in each arm the ruling is known, and what it rests on is what that arm needs.
 use mathlib.Core.Path.{_≡_, refl, sym, ap, subst, _∙_}
 use borrow.Author.Needs.{needs}
-use Rattle.entries.specs.declared.entry.Figures.{Figures}
 use Rattle.set_up.specs.Rulings.{RestsOn, ruledBy}
 use Rattle.set_up.specs.declared.ruling.Ruling.{Ruling}
 use Rattle.set_up.specs.declared.stages.Book.{Book}

@@ -1,5 +1,5 @@
 -- `underlying` meets its contract: a row whose values are allowed is taken while there are fewer than 8 underlyings, and else refused.
-use mathlib.Core.Path.{ap, _∙_}
+use mathlib.Core.Path.{ap}
 use mathlib.Core.Bool.{Bool, _&&_}
 use lib.Dec.{ltb}
 use Rattle.set_up.proofs.Booking.{as-found}
