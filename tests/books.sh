@@ -5,5 +5,5 @@ set -eu
 cd "$(dirname "$0")/.."
 [ -x target/bin/book ] || rt check book
 sh tests/cargo.sh build
-export STACK=176
+export STACK_KIB=176
 exec host/target/release/books "$1" "$2" sh tests/program.sh book

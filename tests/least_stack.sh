@@ -3,12 +3,12 @@ set -eu
 cd "$(dirname "$0")/.."
 place=$(mktemp -d)
 trap 'rm -rf "$place"' EXIT
-STACK=1024 sh tests/program.sh book <"$1" >"$place/all"
+STACK_KIB=1024 sh tests/program.sh book <"$1" >"$place/all"
 [ -s "$place/all" ] || { echo "no line is printed for $1" >&2; exit 1; }
 
 # within KIB: whether every line is printed in so much stack. A program that runs out of it is killed.
 within() {
-    STACK=$1 sh tests/program.sh book <"$book" >"$place/some" 2>/dev/null || return 1
+    STACK_KIB=$1 sh tests/program.sh book <"$book" >"$place/some" 2>/dev/null || return 1
     cmp -s "$place/all" "$place/some"
 }
 

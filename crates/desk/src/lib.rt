@@ -84,6 +84,7 @@ fn run_from(start: Book, bytes: &[u8], numbers: &mut [u8], sums: &mut [i64]) -> 
         let sheet = account.sheet;
         sums[k] = available_in(stage, sheet);
         k += 1;
+        // A reader that stays has met a record that can't be read, and the run ends with it.
         if read.next == place {
             return Run {
                 verdict: Verdict::Accepted,
