@@ -1,4 +1,4 @@
--- Figures on which a day may end: those that a day end of as many rows as the tables have is accepted with.
+-- Figures on which a day may end: those with which a day end of as many rows as the tables have is accepted (house).
 use mathlib.Core.Path.{_≡_}
 use Rattle.entries.specs.declared.entry.Figures as Figures·of
 use Rattle.account.specs.DayEnd.{dayEndVerdict}

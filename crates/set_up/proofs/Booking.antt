@@ -1,11 +1,12 @@
 -- A record ruled and then booked is entered: where a test fails the ruling is the refusal, and the book stays; where all pass it is what the kind adds, and the book is the one after it. What a ruling rests on was tested when it was made.
 use mathlib.Core.Path.{_≡_, refl, sym, ap, subst, _∙_}
-use mathlib.Core.Bool.{Bool, true, false, cond, _&&_}
+use mathlib.Core.Bool.{Bool, true, false, _&&_}
 use Prim.Native.Nat.{_≤_}
 use borrow.Author.Tests.{ltb-true}
 use lib.Dec.{ltb}
 use Rattle.terms.specs.Ranges.{rangeOf, _∈_}
 use Rattle.terms.specs.declared.measure.Measure.the-variants.{OpeningCash}
+use Rattle.terms.specs.declared.refusal.Refusal.{Refusal}
 use Rattle.terms.specs.declared.refusal.Refusal.the-variants.{OutOfPlace, OutOfRange}
 use Rattle.terms.proofs.Ranges.{second-holds}
 use Rattle.entries.specs.Entries.{kindOf}
@@ -21,25 +22,25 @@ use Rattle.account.specs.declared.judged.Verdict.the-variants.{Accepted}
 use Rattle.account.specs.declared.judged.Verdict.the-variants as Verdict
 use Rattle.steps.specs.Booked.{decisionOn}
 use Rattle.steps.proofs.Booking.{rests, stepped, verdict-decided}
-use Rattle.set_up.specs.Rulings.{RestsOn, contractRuling, openingRuling, ruledBy, rulingOn, taken, underlyingRuling, verdictOn}
+use Rattle.set_up.specs.Rulings.{RestsOn, contractRuling, openingRuling, ruledAs, ruledBy, rulingOn, underlyingRuling, verdictOn}
 use Rattle.set_up.specs.Stages.{bookAfter, bySetUp, enteredAs, entered, inPlace, recordVerdict, withEntry}
 use Rattle.set_up.specs.declared.ruling.Ruling.{Ruling}
-use Rattle.set_up.specs.declared.ruling.Ruling.the-variants.{Refused, Underlying, Contract, Opening, Entry}
+use Rattle.set_up.specs.declared.ruling.Ruling.the-variants.{Underlying, Contract, Opening, Entry}
 use Rattle.set_up.specs.declared.stages.Book.{Book}
 use Rattle.set_up.specs.declared.stages.Stage.the-variants.{Entries}
 use Rattle.set_up.proofs.Entering.{after-entry, each-entry, entry-verdict, no-set-up, open-stage, verdict}
 
 -- found is what the code found of the test
-pub as-found : (test found : Bool) (ruling : Ruling) {answer : Bool} → found ≡ answer → found ≡ test → taken answer ruling ≡ taken test ruling
-as-found test found ruling e is = ap (λ (passes : Bool). taken passes ruling) (sym e ∙ is)
+pub as-found : (why : Refusal) (test found : Bool) (ruling : Ruling) {answer : Bool} → found ≡ answer → found ≡ test → ruledAs (answer else why then Accepted) ruling ≡ ruledAs (test else why then Accepted) ruling
+as-found why test found ruling e is = ap (λ (passes : Bool). ruledAs (passes else why then Accepted) ruling) (sym e ∙ is)
 
 module _ (b : Book) (f : Figures) where
   -- what a record in its place comes to
   abbrev pub by-kind : Entry·of.Entry → Ruling
-  by-kind entry = bySetUp (underlyingRuling (b .tables .m)) (contractRuling (b .tables .m) (b .tables .n)) openingRuling (Entry (decisionOn (b .tables) (b .account) entry f)) entry
+  by-kind entry = bySetUp (underlyingRuling (b .tables)) (contractRuling (b .tables)) openingRuling (Entry (decisionOn (b .tables) (b .account) entry f)) entry
 
   pub entry-ruling : (entry : Entry·of.Entry) → codeOf (kindOf entry) ≤ 8 → Entry (decisionOn (b .tables) (b .account) entry f) ≡ by-kind entry
-  entry-ruling entry few = sym (no-set-up (underlyingRuling (b .tables .m)) (contractRuling (b .tables .m) (b .tables .n)) openingRuling (Entry (decisionOn (b .tables) (b .account) entry f)) entry few)
+  entry-ruling entry few = sym (no-set-up (underlyingRuling (b .tables)) (contractRuling (b .tables)) openingRuling (Entry (decisionOn (b .tables) (b .account) entry f)) entry few)
 
   -- a ruling tells the verdict, is booked as the book after it, and rests on what it needs
   record Leads (ruling : Ruling) (v : Verdict·of.Verdict) (after : Book) : Type 0 where
@@ -47,7 +48,7 @@ module _ (b : Book) (f : Figures) where
     booked : ruledBy b f ruling ≡ enteredAs v b after .book
     rested : RestsOn b f ruling
 
-  row-taken : (passes : Bool) (ruling : Ruling) → verdictOn ruling ≡ Accepted → (passes ≡ true → RestsOn b f ruling) → Leads (taken passes ruling) (passes else OutOfRange then Accepted) (ruledBy b f ruling)
+  row-taken : (passes : Bool) (ruling : Ruling) → verdictOn ruling ≡ Accepted → (passes ≡ true → RestsOn b f ruling) → Leads (ruledAs (passes else OutOfRange then Accepted) ruling) (passes else OutOfRange then Accepted) (ruledBy b f ruling)
   row-taken true ruling accepted room = record { told = accepted; booked = refl; rested = room refl }
   row-taken false ruling accepted room = record { told = refl; booked = refl; rested = tt }
 
@@ -84,14 +85,14 @@ module _ (b : Book) (f : Figures) where
 module _ (b : Book) (entry : Entry·of.Entry) (f : Figures) where
   pub in-its-place : inPlace (b .stage) (codeOf (kindOf entry)) ≡ true → by-kind b f entry ≡ rulingOn b entry f
   unfolding rulingOn
-  in-its-place placed = ap (λ (passes : Bool). cond passes (by-kind b f entry) (Refused OutOfPlace)) (sym placed)
+  in-its-place placed = ap (λ (passes : Bool). ruledAs (passes else OutOfPlace then Accepted) (by-kind b f entry)) (sym placed)
 
   leads : Leads b f (rulingOn b entry f) (recordVerdict b entry f) (bookAfter b entry f)
   unfolding rulingOn recordVerdict
   leads = go (inPlace (b .stage) (codeOf (kindOf entry))) refl
     where
       go : (placed : Bool) → inPlace (b .stage) (codeOf (kindOf entry)) ≡ placed
-          → Leads b f (cond placed (by-kind b f entry) (Refused OutOfPlace)) (placed else OutOfPlace then verdict b f entry) (bookAfter b entry f)
+          → Leads b f (ruledAs (placed else OutOfPlace then Accepted) (by-kind b f entry)) (placed else OutOfPlace then verdict b f entry) (bookAfter b entry f)
       go true e = kind-leads b f entry e
       go false e = record { told = refl; booked = refl; rested = tt }
 

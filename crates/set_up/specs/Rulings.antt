@@ -1,11 +1,7 @@
--- What a record comes to before anything is written, and the book after it: the two halves of `entered`.
+-- What a record comes to before anything is written, and the book after that is booked: the two halves of `entered` (house).
 use mathlib.Core.Path.{_≡_}
-use mathlib.Core.Bool.{Bool, cond, _&&_}
 use Prim.Native.Nat.{ℕ, _<_}
-use lib.Dec.{ltb}
-use Rattle.terms.specs.Ranges.{rangeOf, _∈_}
-use Rattle.terms.specs.declared.measure.Measure.the-variants.{OpeningCash}
-use Rattle.terms.specs.declared.refusal.Refusal.the-variants.{OutOfRange, OutOfPlace}
+use Rattle.terms.specs.declared.refusal.Refusal.the-variants.{OutOfPlace}
 use Rattle.entries.specs.Entries.{kindOf}
 use Rattle.entries.specs.Table.{codeOf}
 use Rattle.entries.specs.declared.entry.Contract as Contract·of
@@ -13,38 +9,38 @@ use Rattle.entries.specs.declared.entry.Entry as Entry·of
 use Rattle.entries.specs.declared.entry.Figures.{Figures}
 use Rattle.entries.specs.declared.entry.Underlying as Underlying·of
 use Rattle.account.specs.Changes.{verdictIn}
-use Rattle.account.specs.Sound.{contractAllowed, underlyingAllowed}
+use Rattle.account.specs.Verdicts.{_else_then_}
 use Rattle.account.specs.declared.judged.Decision.{Decision}
 use Rattle.account.specs.declared.judged.Verdict as Verdict·of
 use Rattle.account.specs.declared.judged.Verdict.the-variants.{Accepted}
 use Rattle.account.specs.declared.judged.Verdict.the-variants as Verdict
+use Rattle.account.specs.declared.tables.Tables.{Tables}
 use Rattle.steps.specs.Booked.{Rests, bookedBy, decisionOn}
-use Rattle.set_up.specs.Stages.{bySetUp, inPlace, opened, withContract, withUnderlying}
+use Rattle.set_up.specs.Stages.{bySetUp, contractVerdict, inPlace, opened, openingVerdict, underlyingVerdict, withContract, withUnderlying}
 use Rattle.set_up.specs.declared.ruling.Ruling.{Ruling}
 use Rattle.set_up.specs.declared.ruling.Ruling.the-variants.{Refused, Underlying, Contract, Opening, Entry}
 use Rattle.set_up.specs.declared.stages.Book.{Book}
 use Rattle.set_up.specs.declared.stages.Stage.the-variants.{Entries}
 
--- a record of set-up is taken where it passes its tests, and else refused with 4
-abbrev pub taken : Bool → Ruling → Ruling
-taken passes ruling = cond passes ruling (Refused OutOfRange)
+-- where the verdict is a refusal, it comes to that
+abbrev pub ruledAs : Verdict·of.Verdict → Ruling → Ruling
+ruledAs Accepted ruling = ruling
+ruledAs (Verdict.Refused why) ruling = Refused why
 
-abbrev pub underlyingRuling : ℕ → Underlying·of.Underlying → Ruling
-underlyingRuling m row = taken (underlyingAllowed row && ltb m 8) (Underlying row)
+abbrev pub underlyingRuling : Tables → Underlying·of.Underlying → Ruling
+underlyingRuling t row = ruledAs (underlyingVerdict t row) (Underlying row)
 
-abbrev pub contractRuling : ℕ → ℕ → Contract·of.Contract → Ruling
-contractRuling m n row = taken (contractAllowed m row && ltb n 64) (Contract row)
+abbrev pub contractRuling : Tables → Contract·of.Contract → Ruling
+contractRuling t row = ruledAs (contractVerdict t row) (Contract row)
 
 abbrev pub openingRuling : ℕ → Ruling
-openingRuling cash = taken (cash ∈ rangeOf OpeningCash) (Opening cash)
+openingRuling cash = ruledAs (openingVerdict cash) (Opening cash)
 
 -- in its place a record goes by its kind
 unfoldable pub rulingOn : Book → Entry·of.Entry → Figures → Ruling
 rulingOn b entry f =
-    let t = b .tables in
-    cond (inPlace (b .stage) (codeOf (kindOf entry)))
-    (bySetUp (underlyingRuling (t .m)) (contractRuling (t .m) (t .n)) openingRuling (Entry (decisionOn t (b .account) entry f)) entry)
-    (Refused OutOfPlace)
+    ruledAs (inPlace (b .stage) (codeOf (kindOf entry)) else OutOfPlace then Accepted)
+    (bySetUp (underlyingRuling (b .tables)) (contractRuling (b .tables)) openingRuling (Entry (decisionOn (b .tables) (b .account) entry f)) entry)
 
 -- the verdict that a ruling tells
 abbrev pub verdictOn : Ruling → Verdict·of.Verdict

@@ -2,6 +2,7 @@
 use crate::stages::Book;
 use crate::stages::Stage;
 use account::Decision;
+use account::Tables;
 use account::Verdict;
 use entries::Contract;
 use entries::Entry;
@@ -51,8 +52,8 @@ pub fn rule(book: Book, entry: Entry, figures: Figures) -> Ruling
     }
     let tables = book.tables;
     match entry {
-        Entry::Underlying(row) => underlying(tables.m, row),
-        Entry::Contract(row) => contract(tables.m, tables.n, row),
+        Entry::Underlying(row) => underlying(tables, row),
+        Entry::Contract(row) => contract(tables, row),
         Entry::Opening(cash) => opening(cash),
         _ => {
             let account = book.account;
@@ -72,20 +73,20 @@ fn in_place(stage: Stage, kind: u16) -> bool
 }
 
 // The row takes the next number, as long as there is one.
-fn underlying(m: usize, row: Underlying) -> Ruling
-    ensures { λ r. ⌜ r ≡ underlyingRuling m row ⌝ }
+fn underlying(tables: Tables, row: Underlying) -> Ruling
+    ensures { λ r. ⌜ r ≡ underlyingRuling tables row ⌝ }
 {
-    if underlying_allowed(row) & (m < terms::UNDERLYINGS) {
+    if underlying_allowed(row) & (tables.m < terms::UNDERLYINGS) {
         Ruling::Underlying(row)
     } else {
         Ruling::Refused(Refusal::OutOfRange)
     }
 }
 
-fn contract(m: usize, n: usize, row: Contract) -> Ruling
-    ensures { λ r. ⌜ r ≡ contractRuling m n row ⌝ }
+fn contract(tables: Tables, row: Contract) -> Ruling
+    ensures { λ r. ⌜ r ≡ contractRuling tables row ⌝ }
 {
-    if contract_allowed(m, row) & (n < terms::CONTRACTS) {
+    if contract_allowed(tables.m, row) & (tables.n < terms::CONTRACTS) {
         Ruling::Contract(row)
     } else {
         Ruling::Refused(Refusal::OutOfRange)

@@ -1,4 +1,4 @@
--- What is decided about an entry, and a decision booked: a refusal leaves tables and account as they were, a change is applied, and a day end goes through all rows.
+-- What is decided about an entry, and a decision booked: a refusal leaves tables and account as they were, a change is applied, and a day end goes through all rows: the two halves of `step` (house).
 use mathlib.Core.Bool.{Bool, true, false, cond}
 use Rattle.entries.specs.declared.entry.Entry.{Entry}
 use Rattle.entries.specs.declared.entry.Entry.the-variants.{Deposit, Withdraw, Lock, Unlock, Order, Fill, Cancel, DayEnd, Underlying, Contract, Opening}

@@ -1,6 +1,5 @@
 -- `rule` meets its contract: a record out of its place is refused; one in its place goes by its kind, and an entry's place is an open book, whose account is sound.
 use mathlib.Core.Path.{_≡_, refl, sym, ap, _∙_}
-use mathlib.Core.Bool.{Bool, cond}
 use mathlib.Core.List.{List, [], _∷_}
 use Prim.Native.Nat.{ℕ, _≤_}
 use native.Mathlib.Omega.{arith}
@@ -19,7 +18,7 @@ use Rattle.set_up.specs.Stages.{inPlace}
 use Rattle.set_up.specs.declared.ruling.Ruling as Rulings
 use Rattle.set_up.specs.declared.ruling.Ruling.the-variants as Ruling
 use Rattle.set_up.proofs.Entering.{open-stage}
-use Rattle.set_up.proofs.Booking.{in-its-place, by-kind, entry-ruling}
+use Rattle.set_up.proofs.Booking.{as-found, by-kind, entry-ruling, in-its-place}
 use Rattle.set_up.proofs.ruling.rule.Statement.{statement}
 use Rattle.set_up.proofs.ruling.rule.Tie as tie
 
@@ -68,7 +67,7 @@ returns : tie.Need-returns
 unfolding rulingOn
 returns c =
     let start = c .before .before .before .before .args in
-    ap (λ (passes : Bool). cond passes (by-kind (start .book) (start .figures) (start .entry)) (Ruling.Refused OutOfPlace)) (sym (not-true _ (c .if1 .taken)) ∙ placed (c .before))
+    as-found OutOfPlace _ _ (by-kind (start .book) (start .figures) (start .entry)) (not-true _ (c .if1 .taken)) (placed (c .before))
 
 returns-5 : tie.Need-returns-5
 returns-5 c =
