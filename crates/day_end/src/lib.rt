@@ -11,14 +11,13 @@ use entries::Figures;
 pub use figures::decide;
 use figures::installed;
 ghost use mathlib.Core.Path.{_≡_};
-ghost use Rattle.account.specs.DayEnd.{dayEnded, figuresInstalled};
 ghost use Rattle.account.specs.Sound.{Sound};
-ghost use Rattle.day_end.specs.Figures.{FiguresTaken};
+ghost use Rattle.day_end.specs.Ended.{FiguresTaken, endedOn};
 
 // The day is ended on figures that the tables take.
 pub fn ended(tables: Tables, account: Account, figures: Figures) -> Outcome
     requires { ⌜ Sound tables account × FiguresTaken tables figures ⌝ }
-    ensures { λ r. ⌜ r ≡ record { verdict = Verdict.Accepted; tables = figuresInstalled tables figures; account = dayEnded (figuresInstalled tables figures) account } ⌝ }
+    ensures { λ r. ⌜ r ≡ endedOn tables account figures ⌝ }
 {
     let new = installed(tables, figures);
     Outcome {

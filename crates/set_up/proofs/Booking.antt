@@ -16,13 +16,12 @@ use Rattle.entries.specs.declared.entry.Figures.{Figures}
 use Rattle.account.specs.Sound.{contractAllowed, underlyingAllowed}
 use Rattle.account.specs.Steps.{accountAfter, outcome, refusalOf, step, tablesAfter}
 use Rattle.account.specs.Verdicts.{_else_then_}
-use Rattle.account.specs.declared.judged.Outcome.{Outcome}
 use Rattle.account.specs.declared.judged.Verdict as Verdict·of
 use Rattle.account.specs.declared.judged.Verdict.the-variants.{Accepted}
 use Rattle.account.specs.declared.judged.Verdict.the-variants as Verdict
 use Rattle.steps.specs.Booked.{decisionOn}
 use Rattle.steps.proofs.Booking.{rests, stepped, verdict-decided}
-use Rattle.set_up.specs.Rulings.{RestsOn, contractRuling, openingRuling, ruledAs, ruledBy, rulingOn, underlyingRuling, verdictOn}
+use Rattle.set_up.specs.Rulings.{RestsOn, contractRuling, openWith, openingRuling, ruledAs, ruledBy, rulingOn, underlyingRuling, verdictOn}
 use Rattle.set_up.specs.Stages.{bookAfter, bySetUp, enteredAs, entered, inPlace, recordVerdict, withEntry}
 use Rattle.set_up.specs.declared.ruling.Ruling.{Ruling}
 use Rattle.set_up.specs.declared.ruling.Ruling.the-variants.{Underlying, Contract, Opening, Entry}
@@ -53,10 +52,7 @@ module _ (b : Book) (f : Figures) where
   row-taken false ruling accepted room = record { told = refl; booked = refl; rested = tt }
 
   module _ (entry : Entry·of.Entry) (stands : b .stage ≡ Entries) where
-    abbrev opened-with : Outcome → Book
-    opened-with o = record { stage = Entries; tables = o .tables; account = o .account }
-
-    by-verdict : (v : Verdict·of.Verdict) → opened-with (outcome v (b .tables) (b .account) (tablesAfter (b .tables) entry f) (accountAfter (b .tables) (b .account) entry f)) ≡ enteredAs v b (withEntry b entry f) .book
+    by-verdict : (v : Verdict·of.Verdict) → openWith (outcome v (b .tables) (b .account) (tablesAfter (b .tables) entry f) (accountAfter (b .tables) (b .account) entry f)) ≡ enteredAs v b (withEntry b entry f) .book
     by-verdict Verdict.Accepted = refl
     by-verdict (Verdict.Refused why) = λ i. record { stage = sym stands i; tables = b .tables; account = b .account }
 
@@ -65,7 +61,7 @@ module _ (b : Book) (f : Figures) where
     entry-leads =
         record {
           told = verdict-decided (b .tables) (b .account) f entry;
-          booked = ap opened-with (stepped (b .tables) (b .account) f entry) ∙ by-verdict (refusalOf (b .tables) (b .account) entry f);
+          booked = ap openWith (stepped (b .tables) (b .account) f entry) ∙ by-verdict (refusalOf (b .tables) (b .account) entry f);
           rested = (stands, rests (b .tables) f (b .account) entry);
         }
 

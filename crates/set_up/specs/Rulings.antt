@@ -11,6 +11,7 @@ use Rattle.entries.specs.declared.entry.Underlying as Underlying·of
 use Rattle.account.specs.Changes.{verdictIn}
 use Rattle.account.specs.Verdicts.{_else_then_}
 use Rattle.account.specs.declared.judged.Decision.{Decision}
+use Rattle.account.specs.declared.judged.Outcome.{Outcome}
 use Rattle.account.specs.declared.judged.Verdict as Verdict·of
 use Rattle.account.specs.declared.judged.Verdict.the-variants.{Accepted}
 use Rattle.account.specs.declared.judged.Verdict.the-variants as Verdict
@@ -58,11 +59,13 @@ RestsOn b f (Contract row) = b .tables .n < 64
 RestsOn b f (Opening cash) = Unit
 RestsOn b f (Entry d) = (b .stage ≡ Entries) × Rests (b .tables) f d
 
+-- an open book with what an entry led to
+abbrev pub openWith : Outcome → Book
+openWith after = record { stage = Entries; tables = after .tables; account = after .account }
+
 -- the book after a ruling
 abbrev pub withDecision : Book → Figures → Decision → Book
-withDecision b f d =
-    let after = bookedBy (b .tables) (b .account) f d in
-    record { stage = Entries; tables = after .tables; account = after .account }
+withDecision b f d = openWith (bookedBy (b .tables) (b .account) f d)
 
 abbrev pub ruledBy : Book → Figures → Ruling → Book
 ruledBy b f (Refused why) = b

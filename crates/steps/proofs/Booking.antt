@@ -20,7 +20,7 @@ use Rattle.account.specs.declared.judged.Verdict.the-variants.{Accepted, Refuse
 use Rattle.account.specs.declared.tables.Tables.{Tables}
 use Rattle.account.proofs.Bounds.{four}
 use Rattle.account.proofs.Passed.{went-on}
-use Rattle.day_end.specs.Figures.{FiguresTaken}
+use Rattle.day_end.specs.Ended.{FiguresTaken}
 use Rattle.steps.specs.Booked.{Rests, bookedBy, changeOf, decisionOn}
 
 module _ (t : Tables) (a : Account) (f : Figures) where

@@ -1,10 +1,11 @@
 -- What is decided about an entry, and a decision booked: a refusal leaves tables and account as they were, a change is applied, and a day end goes through all rows: the two halves of `step` (house).
-use mathlib.Core.Bool.{Bool, true, false, cond}
+use mathlib.Core.Bool.{cond}
+use Rattle.entries.specs.Entries.{kindOf}
+use Rattle.entries.specs.Table.{isDayEnd}
 use Rattle.entries.specs.declared.entry.Entry.{Entry}
 use Rattle.entries.specs.declared.entry.Entry.the-variants.{Deposit, Withdraw, Lock, Unlock, Order, Fill, Cancel, DayEnd, Underlying, Contract, Opening}
 use Rattle.entries.specs.declared.entry.Figures.{Figures}
 use Rattle.account.specs.Changes.{applied, decided, ending, ofSheet}
-use Rattle.account.specs.DayEnd.{dayEnded, figuresInstalled}
 use Rattle.account.specs.Fills.{cancelChange, fillChange, named}
 use Rattle.account.specs.Locks.{lockChange, unlockChange}
 use Rattle.account.specs.Orders.{factsOf, orderChange}
@@ -17,7 +18,7 @@ use Rattle.account.specs.declared.judged.Decision.the-variants as Decision·of
 use Rattle.account.specs.declared.judged.Outcome.{Outcome}
 use Rattle.account.specs.declared.judged.Verdict.the-variants.{Accepted, Refused}
 use Rattle.account.specs.declared.tables.Tables.{Tables}
-use Rattle.day_end.specs.Figures.{FiguresTaken}
+use Rattle.day_end.specs.Ended.{FiguresTaken, endedOn}
 
 -- what an entry within the day changes; a day end changes more than one row, and set-up has ended
 abbrev pub changeOf : Tables → Account → Entry → Change
@@ -33,22 +34,9 @@ changeOf t a (Underlying row) = ofSheet (a .sheet) (a .last)
 changeOf t a (Contract row) = ofSheet (a .sheet) (a .last)
 changeOf t a (Opening cash) = ofSheet (a .sheet) (a .last)
 
-abbrev pub withinDay : Entry → Bool
-withinDay (Deposit amount) = true
-withinDay (Withdraw amount) = true
-withinDay (Lock u units) = true
-withinDay (Unlock u units) = true
-withinDay (Order o) = true
-withinDay (Fill fill) = true
-withinDay (Cancel number) = true
-withinDay (DayEnd n m) = false
-withinDay (Underlying row) = true
-withinDay (Contract row) = true
-withinDay (Opening cash) = true
-
 -- the verdict on the entry, with what it changes or with the end of the day
 unfoldable pub decisionOn : Tables → Account → Entry → Figures → Decision
-decisionOn t a entry f = cond (withinDay entry) (decided (refusalOf t a entry f) (changeOf t a entry)) (ending (refusalOf t a entry f))
+decisionOn t a entry f = cond (isDayEnd (kindOf entry)) (ending (refusalOf t a entry f)) (decided (refusalOf t a entry f) (changeOf t a entry))
 
 -- what a decision rests on when it is booked: where the day ends, the tables take the figures
 abbrev pub Rests : Tables → Figures → Decision → Type 0
@@ -59,4 +47,4 @@ Rests t f Decision·of.DayEnds = FiguresTaken t f
 abbrev pub bookedBy : Tables → Account → Figures → Decision → Outcome
 bookedBy t a f (Decision·of.Refused why) = record { verdict = Refused why; tables = t; account = a }
 bookedBy t a f (Decision·of.Changes change) = record { verdict = Accepted; tables = t; account = applied a change }
-bookedBy t a f Decision·of.DayEnds = record { verdict = Accepted; tables = figuresInstalled t f; account = dayEnded (figuresInstalled t f) a }
+bookedBy t a f Decision·of.DayEnds = endedOn t a f

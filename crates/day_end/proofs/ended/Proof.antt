@@ -9,7 +9,7 @@ use Rattle.account.specs.declared.judged.Outcome.{Outcome}
 use Rattle.account.specs.declared.judged.Verdict.the-variants.{Accepted}
 use Rattle.account.specs.declared.tables.Tables.{Tables}
 use Rattle.account.proofs.DayEndSound.{day-end-sound}
-use Rattle.day_end.specs.Figures.{FiguresTaken}
+use Rattle.day_end.specs.Ended.{FiguresTaken, endedOn}
 use Rattle.day_end.proofs.ended.Statement.{statement}
 use Rattle.day_end.proofs.ended.Tie as tie
 
@@ -20,7 +20,7 @@ module _ (t : Tables) (a : Account) (f : Figures) (new : Tables) (installed : ne
   sound-after : Sound t a → FiguresTaken t f → Sound new (dayEnded new a)
   sound-after sound taken = subst (λ (t : Tables). Sound t (dayEnded t a)) (sym installed) (day-end-sound t a (t .n) (t .m) f sound taken)
 
-  changed : (after : Account) → after ≡ dayEnded new a → booked new after ≡ booked (figuresInstalled t f) (dayEnded (figuresInstalled t f) a)
+  changed : (after : Account) → after ≡ dayEnded new a → booked new after ≡ endedOn t a f
   changed after ended = rw (ended, installed) refl
 
 pub ended-spec : {M : Type 1} → statement M
