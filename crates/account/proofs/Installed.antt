@@ -31,15 +31,21 @@ pub record InRange (t : Tables) (f : Figures) : Type 0 where
   pub settlements : (c : ℕ) → c < t .n → (settlementOf f c ∈ rangeOf Settlement) ≡ true
   pub closes : (u : ℕ) → u < t .m → (closeOf f u ∈ rangeOf Price) ≡ true
 
+-- an accepted day end has as many rows as the tables
+pub rows-told : (t : Tables) (n m : ℕ) (f : Figures) → dayEndVerdict t n m f ≡ Accepted → (n ≡ t .n) × (m ≡ t .m)
+unfolding dayEndVerdict
+rows-told t n m f e =
+    let known = four (eqb n (t .n)) (eqb m (t .m)) (every n _) (every m _) (went-on _ OutOfRange Accepted e .0) in
+    (eqb-true n (t .n) (known .0), eqb-true m (t .m) (known .1))
+
 pub figures-passed : (t : Tables) (n m : ℕ) (f : Figures) → dayEndVerdict t n m f ≡ Accepted → InRange t f
 unfolding dayEndVerdict
 figures-passed t n m f e =
     let known = four (eqb n (t .n)) (eqb m (t .m)) (every n _) (every m _) (went-on _ OutOfRange Accepted e .0) in
-    let same-n = eqb-true n (t .n) (known .0) in
-    let same-m = eqb-true m (t .m) (known .1) in
+    let same = rows-told t n m f e in
     record {
-      settlements = λ c h. each-passes n _ (known .2) c (omega (arith, h, same-n));
-      closes = λ u h. each-passes m _ (known .3) u (omega (arith, h, same-m));
+      settlements = λ c h. each-passes n _ (known .2) c (omega (arith, h, same .0));
+      closes = λ u h. each-passes m _ (known .3) u (omega (arith, h, same .1));
     }
 
 module _ (t : Tables) (f : Figures) where

@@ -1,14 +1,11 @@
 -- A decision booked is the outcome of its verdict: what it changes where it is accepted, nothing where it is refused. So an entry is stepped as what is decided about it is booked; and a day ends only on figures that the tables take.
 use mathlib.Core.Path.{_≡_, refl, sym, ap, _∙_}
 use Prim.Native.Nat.{ℕ}
-use borrow.Author.Tests.{eqb-true}
-use lib.Dec.{eqb}
-use Rattle.terms.specs.declared.refusal.Refusal.the-variants.{OutOfRange}
 use Rattle.entries.specs.declared.entry.Entry.{Entry}
 use Rattle.entries.specs.declared.entry.Entry.the-variants.{Deposit, Withdraw, Lock, Unlock, Order, Fill, Cancel, DayEnd, Underlying, Contract, Opening}
 use Rattle.entries.specs.declared.entry.Figures.{Figures}
 use Rattle.account.specs.Changes.{applied, decided, ending, verdictIn}
-use Rattle.account.specs.DayEnd.{dayEndVerdict, dayEnded, every, figuresInstalled}
+use Rattle.account.specs.DayEnd.{dayEndVerdict, dayEnded, figuresInstalled}
 use Rattle.account.specs.Steps.{accountAfter, outcome, refusalOf, step, tablesAfter}
 use Rattle.account.specs.declared.account.Account.{Account}
 use Rattle.account.specs.declared.judged.Change.{Change}
@@ -18,8 +15,7 @@ use Rattle.account.specs.declared.judged.Outcome.{Outcome}
 use Rattle.account.specs.declared.judged.Verdict.{Verdict}
 use Rattle.account.specs.declared.judged.Verdict.the-variants.{Accepted, Refused}
 use Rattle.account.specs.declared.tables.Tables.{Tables}
-use Rattle.account.proofs.Bounds.{four}
-use Rattle.account.proofs.Passed.{went-on}
+use Rattle.account.proofs.Installed.{rows-told}
 use Rattle.day_end.specs.Ended.{FiguresTaken}
 use Rattle.steps.specs.Booked.{Rests, bookedBy, changeOf, decisionOn}
 
@@ -71,15 +67,9 @@ module _ (t : Tables) (a : Account) (f : Figures) where
 
 module _ (t : Tables) (f : Figures) where
   -- an accepted day end has as many rows as the tables
-  rows : (n m : ℕ) → dayEndVerdict t n m f ≡ Accepted → (n ≡ t .n) × (m ≡ t .m)
-  unfolding dayEndVerdict
-  rows n m accepted =
-      let known = four (eqb n (t .n)) (eqb m (t .m)) (every n _) (every m _) (went-on _ OutOfRange Accepted accepted .0) in
-      (eqb-true n (t .n) (known .0), eqb-true m (t .m) (known .1))
-
   taken : (n m : ℕ) → dayEndVerdict t n m f ≡ Accepted → FiguresTaken t f
   taken n m accepted =
-      let same = rows n m accepted in
+      let same = rows-told t n m f accepted in
       ap (λ (n : ℕ). dayEndVerdict t n (t .m) f) (sym (same .0)) ∙ ap (λ (m : ℕ). dayEndVerdict t n m f) (sym (same .1)) ∙ accepted
 
   decided-rests : (v : Verdict) (change : Change) → Rests t f (decided v change)
