@@ -9,7 +9,7 @@ use Rattle.terms.specs.declared.right.Right.{Right}
 use Rattle.entries.specs.declared.kind.Kind.{Kind}
 use Rattle.entries.specs.declared.kind.Kind.the-variants as Kind·of
 use Rattle.entries.specs.declared.entry.Entry.{Entry}
-use Rattle.entries.specs.declared.entry.Entry.the-variants.{Deposit, Withdraw, Lock, Unlock, Order, Fill, Cancel, DayEnd, Underlying, Contract, Opening}
+use Rattle.entries.specs.declared.entry.Entry.the-variants.{Deposit, Withdraw, Lock, Unlock, Order, Fill, Cancel, DayEnd, Pay, Drop, Underlying, Contract, Opening}
 use Rattle.entries.specs.declared.entry.EntryCoded.{EntryCoded}
 use Rattle.entries.specs.declared.entry.EntryCoded.the-variants.{Listed, Unlisted}
 use Rattle.entries.specs.declared.entry.Figures.{Figures}
@@ -24,6 +24,8 @@ kindOf (Order order) = Kind·of.Order
 kindOf (Fill fill) = Kind·of.Fill
 kindOf (Cancel number) = Kind·of.Cancel
 kindOf (DayEnd n m) = Kind·of.DayEnd
+kindOf Pay = Kind·of.Pay
+kindOf Drop = Kind·of.Drop
 kindOf (Underlying row) = Kind·of.Underlying
 kindOf (Contract row) = Kind·of.Contract
 kindOf (Opening cash) = Kind·of.Opening
@@ -38,6 +40,8 @@ fieldsIn (Order o) = o .number ∷ o .contract ∷ kindCode (o .kind) ∷ o .qua
 fieldsIn (Fill o) = o .number ∷ o .quantity ∷ o .price ∷ []
 fieldsIn (Cancel number) = number ∷ []
 fieldsIn (DayEnd n m) = n ∷ m ∷ []
+fieldsIn Pay = []
+fieldsIn Drop = []
 fieldsIn (Underlying u) = classCode (u .class) ∷ u .close ∷ u .rights ∷ u .total ∷ u .daily ∷ []
 fieldsIn (Contract c) = c .underlying ∷ rightCode (c .right) ∷ c .strike ∷ c .unit ∷ c .settlement ∷ []
 fieldsIn (Opening cash) = cash ∷ []
@@ -67,6 +71,8 @@ entryOf Kind·of.Order vs = coded kindCode (orderOf vs) Unlisted kinds (vs ! 2)
 entryOf Kind·of.Fill vs = Listed (Fill (record { number = vs ! 0; quantity = vs ! 1; price = vs ! 2 }))
 entryOf Kind·of.Cancel vs = Listed (Cancel (vs ! 0))
 entryOf Kind·of.DayEnd vs = Listed (DayEnd (vs ! 0) (vs ! 1))
+entryOf Kind·of.Pay vs = Listed Pay
+entryOf Kind·of.Drop vs = Listed Drop
 entryOf Kind·of.Underlying vs = coded classCode (underlyingOf vs) Unlisted classes (vs ! 0)
 entryOf Kind·of.Contract vs = coded rightCode (contractOf vs) Unlisted rights (vs ! 1)
 entryOf Kind·of.Opening vs = Listed (Opening (vs ! 0))

@@ -1,4 +1,4 @@
--- The table of records (Records): the one place where kinds, fields and widths stand. Reading, writing and lengths all go by it.
+-- The table of records (Records; document 02, #101): the one place where kinds, fields and widths stand. Reading, writing and lengths all go by it.
 use Prim.Native.Nat.{ℕ, _+_, _%_}
 use mathlib.Core.Bool.{Bool, cond, _&&_}
 use mathlib.Core.List.{List, [], _∷_}
@@ -9,7 +9,7 @@ use Rattle.terms.specs.Ranges.{rangeOf, _to_, _∈_}
 use Rattle.terms.specs.declared.measure.Measure.the-variants as Measure
 use Rattle.entries.specs.Numbers.{total}
 use Rattle.entries.specs.declared.kind.Kind.{Kind}
-use Rattle.entries.specs.declared.kind.Kind.the-variants.{Deposit, Withdraw, Lock, Unlock, Order, Fill, Cancel, DayEnd, Underlying, Contract, Opening}
+use Rattle.entries.specs.declared.kind.Kind.the-variants.{Deposit, Withdraw, Lock, Unlock, Order, Fill, Cancel, DayEnd, Pay, Drop, Underlying, Contract, Opening}
 use Rattle.entries.specs.declared.kind.KindCoded.{KindCoded}
 use Rattle.entries.specs.declared.kind.KindCoded.the-variants as KindAnswer
 
@@ -23,13 +23,15 @@ codeOf Order = 5
 codeOf Fill = 6
 codeOf Cancel = 7
 codeOf DayEnd = 8
+codeOf Pay = 9
+codeOf Drop = 10
 codeOf Underlying = 16
 codeOf Contract = 17
 codeOf Opening = 18
 
 -- the table's rows, in its order (house)
 abbrev pub kinds : List Kind
-kinds = Deposit ∷ Withdraw ∷ Lock ∷ Unlock ∷ Order ∷ Fill ∷ Cancel ∷ DayEnd ∷ Underlying ∷ Contract ∷ Opening ∷ []
+kinds = Deposit ∷ Withdraw ∷ Lock ∷ Unlock ∷ Order ∷ Fill ∷ Cancel ∷ DayEnd ∷ Pay ∷ Drop ∷ Underlying ∷ Contract ∷ Opening ∷ []
 
 -- the kind that a code says, if it is in the table (house)
 abbrev pub kindCoded : ℕ → KindCoded
@@ -45,6 +47,8 @@ fieldsOf Order = 4 ∷ 2 ∷ 2 ∷ 4 ∷ 4 ∷ []  -- number, contract, order ki
 fieldsOf Fill = 4 ∷ 4 ∷ 4 ∷ []  -- number, quantity, price
 fieldsOf Cancel = 4 ∷ []  -- number
 fieldsOf DayEnd = 2 ∷ 2 ∷ []  -- n, m
+fieldsOf Pay = []  -- "no fields" (#101)
+fieldsOf Drop = []  -- "no fields" (#101)
 fieldsOf Underlying = 2 ∷ 4 ∷ 2 ∷ 2 ∷ 2 ∷ []  -- class, close, rights, total, daily
 fieldsOf Contract = 2 ∷ 2 ∷ 4 ∷ 4 ∷ 4 ∷ []  -- underlying, right, strike, unit, settlement
 fieldsOf Opening = 8 ∷ []  -- cash

@@ -6,7 +6,7 @@ use terms::Right;
 ghost use mathlib.Core.Path.{_≡_};
 ghost use Rattle.entries.specs.Entries.{kindOf};
 
-// An entry carries its case. A day end's figures stand beside it, in `Figures`.
+// An entry carries its case. A withdrawal is asked for, and then paid or dropped. A day end's figures stand beside it, in `Figures`.
 pub enum Entry {
     Deposit(u64),
     Withdraw(u64),
@@ -16,6 +16,8 @@ pub enum Entry {
     Fill(Fill),
     Cancel { number: u32 },
     DayEnd { n: u16, m: u16 },
+    Pay,
+    Drop,
     Underlying(Underlying),
     Contract(Contract),
     Opening(u64),
@@ -40,6 +42,8 @@ impl Entry {
             Entry::Fill(_) => Kind::Fill,
             Entry::Cancel { number: _ } => Kind::Cancel,
             Entry::DayEnd { n: _, m: _ } => Kind::DayEnd,
+            Entry::Pay => Kind::Pay,
+            Entry::Drop => Kind::Drop,
             Entry::Underlying(_) => Kind::Underlying,
             Entry::Contract(_) => Kind::Contract,
             Entry::Opening(_) => Kind::Opening,

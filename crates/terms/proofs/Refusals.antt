@@ -1,21 +1,22 @@
--- The reasons have distinct numbers, and these are 1 to 18 in the paper's order: the list of all reasons has each at its number's place, which computes.
+-- The reasons have distinct numbers, and these are 1 to 20 in the paper's order: the list of all reasons has each at its number's place, which computes.
 use mathlib.Core.Path.{_≡_, refl, sym, ap, _∙_}
 use mathlib.Core.List.{List, [], _∷_, map}
 use Prim.Native.Nat.{ℕ, _-_}
 use lib.ListN.{getD}
 use Rattle.terms.specs.Refusals.{numberOf}
 use Rattle.terms.specs.declared.refusal.Refusal.{Refusal}
-use Rattle.terms.specs.declared.refusal.Refusal.the-variants.{CutShort, UnknownKind, Misshapen, OutOfRange, OutOfPlace, StaleNumber, NoSuchOrder, OrdersFull, PositionTooSmall, RightsPassed, TotalPassed, DailyPassed, SpareTooFew, AvailablePassed, CeilingPassed, FillBarred, BufferTooShort, CashBelowZero}
+use Rattle.terms.specs.declared.refusal.Refusal.the-variants.{CutShort, UnknownKind, Misshapen, OutOfRange, OutOfPlace, StaleNumber, NoSuchOrder, OrdersFull, PositionTooSmall, RightsPassed, TotalPassed, DailyPassed, SpareTooFew, AvailablePassed, CeilingPassed, FillBarred, BufferTooShort, CashBelowZero, NothingWaiting, AlreadyWaiting}
 
 abbrev pub reasons : List Refusal
 reasons =
     CutShort ∷ UnknownKind ∷ Misshapen ∷ OutOfRange ∷ OutOfPlace ∷ StaleNumber ∷ NoSuchOrder ∷ OrdersFull ∷ PositionTooSmall
-    ∷ RightsPassed ∷ TotalPassed ∷ DailyPassed ∷ SpareTooFew ∷ AvailablePassed ∷ CeilingPassed ∷ FillBarred ∷ BufferTooShort ∷ CashBelowZero ∷ []
+    ∷ RightsPassed ∷ TotalPassed ∷ DailyPassed ∷ SpareTooFew ∷ AvailablePassed ∷ CeilingPassed ∷ FillBarred ∷ BufferTooShort ∷ CashBelowZero
+    ∷ NothingWaiting ∷ AlreadyWaiting ∷ []
 
 abbrev reason : ℕ → Refusal
 reason n = getD reasons (n - 1) CutShort
 
-pub numbered : map numberOf reasons ≡ 1 ∷ 2 ∷ 3 ∷ 4 ∷ 5 ∷ 6 ∷ 7 ∷ 8 ∷ 9 ∷ 10 ∷ 11 ∷ 12 ∷ 13 ∷ 14 ∷ 15 ∷ 16 ∷ 17 ∷ 18 ∷ []
+pub numbered : map numberOf reasons ≡ 1 ∷ 2 ∷ 3 ∷ 4 ∷ 5 ∷ 6 ∷ 7 ∷ 8 ∷ 9 ∷ 10 ∷ 11 ∷ 12 ∷ 13 ∷ 14 ∷ 15 ∷ 16 ∷ 17 ∷ 18 ∷ 19 ∷ 20 ∷ []
 numbered = refl
 
 pub placed : (why : Refusal) → reason (numberOf why) ≡ why
@@ -37,6 +38,8 @@ placed CeilingPassed = refl
 placed FillBarred = refl
 placed BufferTooShort = refl
 placed CashBelowZero = refl
+placed NothingWaiting = refl
+placed AlreadyWaiting = refl
 
 pub distinct : (why other : Refusal) → numberOf why ≡ numberOf other → why ≡ other
 distinct why other e = sym (placed why) ∙ ap reason e ∙ placed other

@@ -1,7 +1,7 @@
--- The refusal numbers, in the order and the words of document 01's table (house).
+-- The refusal numbers, in the order and the words of document 01's table (house); from 19 on those of document 02's requests.
 use Prim.Native.Nat.{ℕ}
 use Rattle.terms.specs.declared.refusal.Refusal.{Refusal}
-use Rattle.terms.specs.declared.refusal.Refusal.the-variants.{CutShort, UnknownKind, Misshapen, OutOfRange, OutOfPlace, StaleNumber, NoSuchOrder, OrdersFull, PositionTooSmall, RightsPassed, TotalPassed, DailyPassed, SpareTooFew, AvailablePassed, CeilingPassed, FillBarred, BufferTooShort, CashBelowZero}
+use Rattle.terms.specs.declared.refusal.Refusal.the-variants.{CutShort, UnknownKind, Misshapen, OutOfRange, OutOfPlace, StaleNumber, NoSuchOrder, OrdersFull, PositionTooSmall, RightsPassed, TotalPassed, DailyPassed, SpareTooFew, AvailablePassed, CeilingPassed, FillBarred, BufferTooShort, CashBelowZero, NothingWaiting, AlreadyWaiting}
 
 abbrev pub numberOf : Refusal → ℕ
 numberOf CutShort = 1  -- record cut short
@@ -22,3 +22,5 @@ numberOf CeilingPassed = 15  -- a ceiling passed
 numberOf FillBarred = 16  -- fill above the remainder, or at a price the order bars
 numberOf BufferTooShort = 17  -- writing buffer shorter than the record
 numberOf CashBelowZero = 18  -- fill would bring cash below zero
+numberOf NothingWaiting = 19  -- a payout paid or dropped with nothing waiting (#101)
+numberOf AlreadyWaiting = 20  -- a second request while one waits (#101)

@@ -22,6 +22,8 @@ pub enum Refusal {
     FillBarred,
     BufferTooShort,
     CashBelowZero,
+    NothingWaiting,
+    AlreadyWaiting,
 }
 
 impl Refusal {
@@ -47,6 +49,8 @@ impl Refusal {
             Refusal::FillBarred => 16,
             Refusal::BufferTooShort => 17,
             Refusal::CashBelowZero => 18,
+            Refusal::NothingWaiting => 19,
+            Refusal::AlreadyWaiting => 20,
         }
     }
 }

@@ -5,10 +5,10 @@ use Rattle.entries.specs.Table.{kindCoded}
 use Rattle.entries.proofs.kind.Kind.coded.Statement.{statement}
 use Rattle.entries.proofs.kind.Kind.coded.Tie as tie
 
-unlisted : tie.Need-returns-12
+unlisted : tie.Need-returns-14
 unlisted c =
     let r = c .match .rest in
-    simp (ne-eqb _ _ (r .0 .0 .0 .0 .0 .0 .0 .0 .0 .0 .1), ne-eqb _ _ (r .0 .0 .0 .0 .0 .0 .0 .0 .0 .1), ne-eqb _ _ (r .0 .0 .0 .0 .0 .0 .0 .0 .1), ne-eqb _ _ (r .0 .0 .0 .0 .0 .0 .0 .1), ne-eqb _ _ (r .0 .0 .0 .0 .0 .0 .1), ne-eqb _ _ (r .0 .0 .0 .0 .0 .1), ne-eqb _ _ (r .0 .0 .0 .0 .1), ne-eqb _ _ (r .0 .0 .0 .1), ne-eqb _ _ (r .0 .0 .1), ne-eqb _ _ (r .0 .1), ne-eqb _ _ (r .1))
+    simp (ne-eqb _ _ (r .0 .0 .0 .0 .0 .0 .0 .0 .0 .0 .0 .0 .1), ne-eqb _ _ (r .0 .0 .0 .0 .0 .0 .0 .0 .0 .0 .0 .1), ne-eqb _ _ (r .0 .0 .0 .0 .0 .0 .0 .0 .0 .0 .1), ne-eqb _ _ (r .0 .0 .0 .0 .0 .0 .0 .0 .0 .1), ne-eqb _ _ (r .0 .0 .0 .0 .0 .0 .0 .0 .1), ne-eqb _ _ (r .0 .0 .0 .0 .0 .0 .0 .1), ne-eqb _ _ (r .0 .0 .0 .0 .0 .0 .1), ne-eqb _ _ (r .0 .0 .0 .0 .0 .1), ne-eqb _ _ (r .0 .0 .0 .0 .1), ne-eqb _ _ (r .0 .0 .0 .1), ne-eqb _ _ (r .0 .0 .1), ne-eqb _ _ (r .0 .1), ne-eqb _ _ (r .1))
 
 pub coded-spec : {M : Type 1} → statement M
 coded-spec =
@@ -25,4 +25,6 @@ coded-spec =
     (λ c. sym (ap kindCoded (c .match .keys9)))
     (λ c. sym (ap kindCoded (c .match .keys10)))
     (λ c. sym (ap kindCoded (c .match .keys11)))
+    (λ c. sym (ap kindCoded (c .match .keys12)))
+    (λ c. sym (ap kindCoded (c .match .keys13)))
     unlisted)
