@@ -2,7 +2,7 @@
 use mathlib.Core.Path.{_≡_, refl, sym, subst}
 use mathlib.Core.Logic.{_⊎_, inl, inr}
 use mathlib.Core.Bool.{Bool, true, false, _&&_}
-use Prim.Native.Nat.{ℕ, zero, suc, _*_, _≤_, _<_}
+use Prim.Native.Nat.{ℕ, zero, suc, _+_, _*_, _≤_, _<_}
 use native.Mathlib.Nat.{le-trans, le-of-lt, mul-le-mul, mul-le-mul-right, div-le-of-le-mul}
 use native.Mathlib.Omega.{arith}
 use borrow.Author.Tests.{ltb-true, eq-eqb}
@@ -24,7 +24,7 @@ use Rattle.entries.specs.declared.entry.Underlying.{Underlying}
 use Rattle.account.specs.Money.{marginBy, marginOne, holdOne, kindOf, holdOf, holdsIn, marginIn}
 use Rattle.account.specs.Orders.{orderAllowed}
 use Rattle.account.specs.Rows.{free, contract, underlying, position, holding, order}
-use Rattle.account.specs.Sound.{SoundTables, SoundOrder, Sound, SoundSheet, asOrder, underlyingAllowed, contractAllowed}
+use Rattle.account.specs.Sound.{SoundPayout, SoundTables, SoundOrder, Sound, SoundSheet, asOrder, underlyingAllowed, contractAllowed}
 use Rattle.account.specs.Sums.{Σ, _when_}
 use Rattle.account.specs.Totals.{isOf, countOf, countIn, overOrders, totalIn, coveredUnits}
 use Rattle.account.specs.declared.account.Account.{Account}
@@ -206,9 +206,9 @@ module _ {t : Tables} {a : Account} (sound : Sound t a) where
   pub units-so-far : (p : Resting → Bool) (k : ℕ) → k ≤ 32 → Σ k (λ i. unitsFor (order a i .left) (contract t (order a i .contract) .unit) .0 when p (order a i)) ≤ 320_000_000
   units-so-far = some-places (λ r. unitsFor (r .left) (contract t (r .contract) .unit) .0) 10_000_000 (λ i h. small i h .units)
 
-  pub holds-most : a .sheet .holds ≤ 32 * (100 * 20_000_000_000)
+  pub holds-most : a .sheet .holds ≤ 32 * (100 * 20_000_000_000) + 10_000_000_000_000
   unfolding holdsIn overOrders
-  holds-most = subst (_≤ 32 * (100 * 20_000_000_000)) (sym (sound .holds)) (Σ-bound 32 _ _ (λ i h. small i h .hold))
+  holds-most = omega (arith, sound .holds, sound .waiting, Σ-bound 32 (λ i. holdOf t (order a i)) (100 * 20_000_000_000) (λ i h. small i h .hold))
 
   pub margin-so-far : (k : ℕ) → k ≤ t .n → Σ k (λ c. forCount (position a c .short .0) (marginOne t c)) ≤ 64 * (10_000 * 20_000_000_000)
   unfolding forCount
@@ -217,6 +217,11 @@ module _ {t : Tables} {a : Account} (sound : Sound t a) where
       let each : (c : ℕ) → c < k → position a c .short .0 * marginOne t c ≤ 10_000 * 20_000_000_000 =
       λ c h. let there : c < t .n = omega (arith, h, l) in mul-le-mul (count-of Short c there) (le-of-lt (one-margin (sound .tables) c there)) in
       le-trans (Σ-bound k _ _ each) (mul-le-mul-right _ few)
+
+  -- what waits is among the holds, and cash reaches for all of them: so for it too, also where available is below zero
+  pub payout-sound : SoundPayout (a .sheet) (a .waiting)
+  unfolding holdsIn
+  payout-sound = record { held = omega (arith, sound .holds); reach = sound .reach }
 
   pub sheet-sound : SoundSheet (a .sheet)
   unfolding marginIn

@@ -50,6 +50,7 @@ module _ (t : Tables) (a : Account) (number : ℕ) (s : Sound t a) (there : plac
       record {
         sound = s;
         put = record { rows = s .orderRows; within = there; orders = ap (set (a .orders) (placeOf a number)) (sym (all-taken r)) };
+        waits = refl;
         some = found a number there;
         enough = le-refl (r .left .0);
       }
@@ -100,6 +101,8 @@ module _ (t : Tables) (a : Account) (number : ℕ) (s : Sound t a) (there : plac
         holdingRows = length-set (a .holdings) under _ ∙ s .holdingRows;
         ceiling = s .ceiling;
         holds = omega (arith, s .holds, holds-taken taken);
+        reach = omega (arith, s .reach);
+        waiting = s .waiting;
         margin = s .margin ∙ sym (margin-kept t a after positions-after);
         rights = λ u h. omega (arith, s .rights u h, count-after Long u, resting-taken taken (isKind BuyOpen) u);
         total = λ u h. omega (arith, s .total u h, count-after Long u, count-after Short u, count-after Covered u, resting-taken taken isOpen u);

@@ -22,7 +22,7 @@ use Rattle.account.specs.declared.account.Account.{Account}
 use Rattle.account.specs.declared.account.Holding.{Holding}
 use Rattle.account.specs.declared.judged.Verdict.the-variants.{Accepted}
 use Rattle.account.specs.declared.tables.Tables.{Tables}
-use Rattle.account.proofs.Bounds.{row-of, covered-in}
+use Rattle.account.proofs.Bounds.{payout-sound, row-of, covered-in}
 use Rattle.account.proofs.Installed.{InRange, figures-passed, installed-sound, same-n, same-m, same-right, same-rights, same-total, count-installed, covered-installed}
 use Rattle.account.proofs.Kept.{margin-kept, covered-kept}
 use Rattle.account.proofs.Listed.{listed-at}
@@ -52,7 +52,9 @@ record Ended (t : Tables) (a b : Account) : Type 0 where
   orders : b .orders ≡ replicate 32 free
   rows : length (b .holdings) ≡ 8
   money : b .sheet .cash + b .sheet .premium ≡ a .sheet .cash + a .sheet .premium
-  holds : b .sheet .holds ≡ 0
+  cash : a .sheet .cash ≤ b .sheet .cash
+  holds : b .sheet .holds ≡ b .waiting
+  waits : b .waiting ≡ a .waiting
   margin : b .sheet .margin ≡ marginIn t b
   holding : (u : ℕ) → u < 8 → holding b u ≡ covering (coveredUnits t b u)
 
@@ -74,7 +76,9 @@ module _ (t : Tables) (a : Account) where
         orders = refl;
         rows = refl;
         money = omega arith;
+        cash = omega arith;
         holds = refl;
+        waits = refl;
         margin = sym (margin-kept t (positionsNetted (ordersCancelled a)) (dayEnded t a) refl);
         holding = holding-after;
       }
@@ -141,6 +145,8 @@ module _ (t : Tables) (a : Account) (f : Figures) (s : Sound t a) (passed : InRa
         holdingRows = ended .rows;
         ceiling = omega (arith, ended .money, s .ceiling);
         holds = ended .holds ∙ sym (none .holds);
+        reach = omega (arith, ended .holds, ended .waits, ended .cash, payout-sound s .held, s .reach);
+        waiting = omega (arith, ended .waits, s .waiting);
         margin = ended .margin;
         rights = λ u h. omega (arith, s .rights u (known u h), count-after Long u, none .resting (isKind BuyOpen) u, same-rights t f (s .tables) u (known u h));
         total = λ u h. omega (arith, s .total u (known u h), count-after Long u, count-after Short u, count-after Covered u, none .resting isOpen u, same-total t f (s .tables) u (known u h));

@@ -1,7 +1,8 @@
--- A fill takes from a resting order what it moves in the position: an open moves from what rests to what is held, within the same totals; a close takes both off, and both were there. Its hold was among the holds, margin moves with short, and what a sell brings was within the ceiling.
+-- A fill takes from a resting order what it moves in the position: an open moves from what rests to what is held, within the same totals; a close takes both off, and both were there. Its hold was among the holds and no less than a buy pays, margin moves with short, and what a sell brings was within the ceiling.
 use mathlib.Core.Path.{_≡_, refl, sym, ap, subst, _∙_}
 use mathlib.Core.Bool.{Bool, true, false, not, _&&_, _||_, and-true, and-false, false≢true}
-use Prim.Native.Nat.{ℕ, _+_, _*_, _≤_, _<_}
+use Prim.Native.Nat.{ℕ, _+_, _-_, _*_, _≤_, _<_}
+use native.Mathlib.Nat.{mul-le-mul-left}
 use native.Mathlib.Omega.{arith}
 use borrow.Author.Tests.{leb-true, ltb-true, eqb-true, eq-eqb}
 use lib.Dec.{eqb, leb, ltb}
@@ -20,11 +21,15 @@ use Rattle.terms.specs.declared.right.Right.the-variants.{Put}
 use Rattle.terms.proofs.Codes.{kind-coded}
 use Rattle.terms.proofs.Ranges.{first-holds, second-holds, inside}
 use Rattle.rules.specs.Count.{forCount}
+use Rattle.rules.specs.Premium.{premiumOf}
+use Rattle.rules.proofs.Rounding.{premium-rises}
+use Rattle.entries.specs.declared.entry.Contract.{Contract}
 use Rattle.entries.specs.declared.entry.Fill.{Fill}
 use Rattle.entries.specs.declared.entry.Order.{Order}
+use Rattle.entries.specs.declared.entry.Underlying.{Underlying}
 use Rattle.account.specs.Changes.{applied}
 use Rattle.account.specs.Fills.{placeOf, named, priceAllowed, paid, fillVerdict, cashAfter, premiumAfter, marginAfter, fillChange}
-use Rattle.account.specs.Money.{kindOf, marginOne, marginIn}
+use Rattle.account.specs.Money.{holdBy, kindOf, marginOne, marginIn}
 use Rattle.account.specs.Orders.{coveredPut, orderAllowed}
 use Rattle.account.specs.Rows.{noHolding, contract, underlying, position, holding, order}
 use Rattle.account.specs.Sound.{Sound, asOrder}
@@ -44,6 +49,7 @@ use Rattle.account.proofs.Taken.{found, Takes, resting-order, resting-t
 pub record FillPassed (f : Named) (fill : Fill) : Type 0 where
   pub there : f .place < 32
   pub enough : fill .quantity ≤ f .order .left .0
+  pub price : buysOf (kindOf (f .order)) ≡ true → fill .price ≤ f .order .price
   pub ceiling : buysOf (kindOf (f .order)) ≡ false → f .sheet .cash + f .sheet .premium + paid f fill ≤ 1_000_000_000_000_000
   pub cash : buysOf (kindOf (f .order)) ≡ true → paid f fill ≤ f .sheet .cash
 
@@ -62,6 +68,7 @@ fill-passed f fill e =
     record {
       there = ltb-true _ _ (place .0);
       enough = leb-true _ _ (first-holds within priced (bar .0));
+      price = λ pays. leb-true _ _ (subst (λ (b : Bool). priceAllowed b (f .order .price) (fill .price) ≡ true) pays (second-holds within priced (bar .0)));
       ceiling = λ sells. inside total (rangeOf Money) (subst (λ (b : Bool). (b || (total ∈ rangeOf Money)) ≡ true) sells (ceiling .0)) .1;
       cash = λ pays. leb-true _ _ (met-passed buys (leb (paid f fill) (f .sheet .cash)) (cash .0) pays);
     }
@@ -75,6 +82,25 @@ money-within SellOpen cash premium sum most h room = omega (arith, room refl)
 money-within BuyClose cash premium sum most h room = omega arith
 money-within CoveredOpen cash premium sum most h room = omega (arith, room refl)
 money-within CoveredClose cash premium sum most h room = omega arith
+
+-- a buy pays the premium at its own price or below, so at most its share of the hold
+pub pays-its-share : (kind : OrderKind) (k : Contract) (u : Underlying) (price limit q : ℕ) → buysOf kind ≡ true → price ≤ limit → forCount q (premiumOf price (k .unit)) ≤ forCount q (holdBy kind k u limit)
+unfolding forCount
+pays-its-share BuyOpen k u price limit q pays below = mul-le-mul-left q (premium-rises (k .unit) below)
+pays-its-share SellClose k u price limit q pays below = absurd (false≢true pays)
+pays-its-share SellOpen k u price limit q pays below = absurd (false≢true pays)
+pays-its-share BuyClose k u price limit q pays below = mul-le-mul-left q (premium-rises (k .unit) below)
+pays-its-share CoveredOpen k u price limit q pays below = absurd (false≢true pays)
+pays-its-share CoveredClose k u price limit q pays below = mul-le-mul-left q (premium-rises (k .unit) below)
+
+-- so cash still reaches for what is held: a buy frees no less than it pays, a sell pays nothing
+still-reaches : (kind : OrderKind) (cash sum holds share : ℕ) → holds ≤ cash → (buysOf kind ≡ true → sum ≤ share) → holds - share ≤ cashAfter (movesOf kind) (buysOf kind) cash sum
+still-reaches BuyOpen cash sum holds share h paid = omega (arith, paid refl)
+still-reaches SellClose cash sum holds share h paid = omega arith
+still-reaches SellOpen cash sum holds share h paid = omega arith
+still-reaches BuyClose cash sum holds share h paid = omega (arith, paid refl)
+still-reaches CoveredOpen cash sum holds share h paid = omega arith
+still-reaches CoveredClose cash sum holds share h paid = omega (arith, paid refl)
 
 -- margin moves up with kind 3 and down with kind 4
 margin-follows : (kind : OrderKind) (before after q one : ℕ) → after + (q when isKind BuyClose (kindCode kind)) * one ≡ before + (q when isKind SellOpen (kindCode kind)) * one
@@ -131,6 +157,7 @@ module _ (t : Tables) (a : Account) (fill : Fill) (s : Sound t a) (p : FillPasse
       record {
         sound = s;
         put = record { rows = s .orderRows; within = p .there; orders = refl };
+        waits = refl;
         some = found a (fill .number) (p .there);
         enough = p .enough;
       }
@@ -175,6 +202,12 @@ module _ (t : Tables) (a : Account) (fill : Fill) (s : Sound t a) (p : FillPasse
       let shifts : ℕ → Type 0 = λ n. marginIn t after + (q when isKind BuyClose n) * one ≡ a .sheet .margin + (q when isKind SellOpen n) * one in
       margin-follows (kindOf r) (a .sheet .margin) (marginIn t after) q one (subst shifts (sym code) (omega (arith, margin-moved moves, s .margin)))
 
+  reach-after : after .sheet .holds ≤ after .sheet .cash
+  unfolding applied fillChange named
+  reach-after =
+      let k = contract t (r .contract) in
+      still-reaches (kindOf r) (a .sheet .cash) _ (a .sheet .holds) _ (s .reach) (λ pays. pays-its-share (kindOf r) k (underlying t (k .underlying)) (fill .price) (r .price) q pays (p .price pays))
+
   closes-after : (kind : OrderKind) → opensOf kind ≡ false → (c : ℕ) → restingOn kind after c ≤ countOf (movesOf kind) (position after c)
   closes-after kind close c =
       let held = count-at moves (movesOf kind) c in
@@ -204,6 +237,8 @@ module _ (t : Tables) (a : Account) (fill : Fill) (s : Sound t a) (p : FillPasse
         holdingRows = length-set (a .holdings) (contract t (r .contract) .underlying) _ ∙ s .holdingRows;
         ceiling = money-within (kindOf r) (a .sheet .cash) (a .sheet .premium) _ 1_000_000_000_000_000 (s .ceiling) (p .ceiling);
         holds = omega (arith, s .holds, holds-taken taken);
+        reach = reach-after;
+        waiting = s .waiting;
         margin = margin-after;
         rights = λ u h. omega (arith, s .rights u h, count-in moves Long u, resting-taken taken (isKind BuyOpen) u);
         total = total-after;

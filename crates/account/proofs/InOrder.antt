@@ -16,7 +16,7 @@ use Rattle.terms.specs.declared.kind.OrderKind.{OrderKind}
 use Rattle.terms.specs.declared.kind.OrderKind.the-variants.{BuyOpen, SellClose, SellOpen, BuyClose, CoveredOpen, CoveredClose}
 use Rattle.terms.specs.declared.measure.Measure.the-variants.{Price, Settlement, Quantity, UnitsAtOnce, Money, LockedUnits}
 use Rattle.terms.specs.declared.refusal.Refusal.{Refusal}
-use Rattle.terms.specs.declared.refusal.Refusal.the-variants.{OutOfRange, NoSuchOrder, FillBarred, CeilingPassed, CashBelowZero, AvailablePassed, SpareTooFew}
+use Rattle.terms.specs.declared.refusal.Refusal.the-variants.{OutOfRange, NoSuchOrder, FillBarred, CeilingPassed, CashBelowZero, AvailablePassed, SpareTooFew, NothingWaiting, AlreadyWaiting}
 use Rattle.terms.specs.declared.right.Right.{Right}
 use Rattle.terms.specs.declared.right.Right.the-variants.{Call, Put}
 use Rattle.entries.specs.declared.entry.Entry.{Entry}
@@ -27,14 +27,14 @@ use Rattle.entries.specs.declared.entry.Order.{Order}
 use Rattle.account.specs.Checks.{Check, Values, columns, meets, member, metBy, orderVerdict, passes, refusalFor, walked}
 use Rattle.account.specs.DayEnd.{closeOf, dayEndVerdict, every, settlementOf}
 use Rattle.account.specs.Fills.{cancelVerdict, fillVerdict, named, paid, priceAllowed}
-use Rattle.account.specs.InOrder.{_above_, cancelTests, dayEndTests, depositTests, entryTests, fillTests, first, lockTests, orderTests, outside, some, unlockTests, withdrawTests}
+use Rattle.account.specs.InOrder.{_above_, cancelTests, dayEndTests, depositTests, entryTests, fillTests, first, lockTests, orderTests, outside, payoutTests, some, unlockTests, withdrawTests}
 use Rattle.account.specs.Locks.{lockVerdict, unitsAllowed, unlockVerdict}
 use Rattle.account.specs.Money.{availableOf, kindOf}
 use Rattle.account.specs.Orders.{coveredPut, factsIn, factsOf, noFacts, orderAllowed}
 use Rattle.account.specs.Rows.{contract, holding}
 use Rattle.account.specs.Steps.{refusalOf}
 use Rattle.account.specs.Totals.{spareUnits}
-use Rattle.account.specs.Transfers.{amountAllowed, depositVerdict, withdrawVerdict}
+use Rattle.account.specs.Transfers.{amountAllowed, depositVerdict, payoutVerdict, withdrawVerdict}
 use Rattle.account.specs.Verdicts.{_else_then_, numberIn}
 use Rattle.account.specs.declared.account.Account.{Account}
 use Rattle.account.specs.declared.account.Holding.{Holding}
@@ -95,11 +95,16 @@ module _ (s : Sheet) (amount : ℕ) where
       next (one (amountAllowed amount) OutOfRange refl)
       (next (one (s .cash + s .premium + amount ∈ rangeOf Money) CeilingPassed (ceiling (rangeOf Money .1) (s .cash + s .premium + amount))) accepted)
 
-  withdraw-told : Told (withdrawVerdict s amount) (withdrawTests s amount)
+  withdraw-told : (waiting : ℕ) → Told (withdrawVerdict s waiting amount) (withdrawTests s waiting amount)
   unfolding withdrawVerdict
-  withdraw-told =
+  withdraw-told waiting =
       next (one (amountAllowed amount) OutOfRange refl)
-      (next (one (leZ (pos amount) (availableOf s)) AvailablePassed refl) accepted)
+      (next (one (eqb waiting 0) AlreadyWaiting refl)
+      (next (one (leZ (pos amount) (availableOf s)) AvailablePassed refl) accepted))
+
+payout-told : (waiting : ℕ) → Told (payoutVerdict waiting) (payoutTests waiting)
+unfolding payoutVerdict
+payout-told waiting = next (one (not (eqb waiting 0)) NothingWaiting (sym (Bool·not-not (eqb waiting 0)))) accepted
 
 module _ (t : Tables) (u units : ℕ) where
   units-told : {tests : List (Bool × ℕ)} → Adds (unitsAllowed t u units) OutOfRange tests ((not (ltb u (t .m)), 4) ∷ (outside 1 1_000_000_000 units, 4) ∷ tests)
@@ -219,13 +224,15 @@ module _ (t : Tables) (a : Account) where
   told : (entry : Entry) (f : Figures) → Told (refusalOf t a entry f) (entryTests t a entry f)
   unfolding refusalOf
   told (Entry·of.Deposit amount) f = deposit-told (a .sheet) amount
-  told (Entry·of.Withdraw amount) f = withdraw-told (a .sheet) amount
+  told (Entry·of.Withdraw amount) f = withdraw-told (a .sheet) amount (a .waiting)
   told (Entry·of.Lock u units) f = lock-told t u units (holding a u)
   told (Entry·of.Unlock u units) f = unlock-told t u units (spareUnits t a u)
   told (Entry·of.Order o) f = order-told t a o
   told (Entry·of.Fill fill) f = fill-told (named t a (fill .number)) fill
   told (Entry·of.Cancel number) f = cancel-told (named t a number)
   told (Entry·of.DayEnd n m) f = day-end-told t n m f
+  told Entry·of.Pay f = payout-told (a .waiting)
+  told Entry·of.Drop f = payout-told (a .waiting)
   told (Entry·of.Underlying row) f = record { number = refl }
   told (Entry·of.Contract row) f = record { number = refl }
   told (Entry·of.Opening cash) f = record { number = refl }

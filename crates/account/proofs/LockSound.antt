@@ -19,6 +19,7 @@ use Rattle.account.specs.declared.account.Account.{Account}
 use Rattle.account.specs.declared.account.Holding.{Holding}
 use Rattle.account.specs.declared.judged.Verdict.{Verdict}
 use Rattle.account.specs.declared.judged.Verdict.the-variants.{Accepted}
+use Rattle.account.specs.declared.judged.Waiting.the-variants.{Stays}
 use Rattle.account.specs.declared.tables.Tables.{Tables}
 use Rattle.account.proofs.Holdings.{each-holding}
 use Rattle.account.proofs.Passed.{went-on}
@@ -35,18 +36,16 @@ module _ (t : Tables) (a : Account) (u : ℕ) where
       let new : Holding = record { locked = record { 0 = units }; bought = holding a u .bought } in
       let each = each-holding t a s u there new in
       let sound =
-      standing-sound t a s (a .sheet) (set (a .holdings) u new)
+      standing-sound t a s (a .sheet) (a .waiting) (set (a .holdings) u new)
+      (record { ceiling = s .ceiling; holds = refl; reach = s .reach; waiting = s .waiting; margin = refl })
       (record {
-        ceiling = s .ceiling;
-        holds = refl;
-        margin = refl;
         rows = length-set (a .holdings) u new ∙ s .holdingRows;
         bought = λ v. each (λ h. h .bought .0 ≡ holding a v .bought .0) v (ap (λ k. holding a k .bought .0)) refl;
         units = λ v h. each (λ h. coveredUnits t a v + reservedUnits t a v ≤ h .locked .0) v (λ e. rw (← e) used) (s .units v h);
         locked = λ v h. each (λ h. h .locked .0 ≤ 2_000_000_000) v (λ e. most) (s .locked v h);
         noMore = λ v h. each (_≡ noHolding) v (λ e. absurd (omega (arith, e, there, h))) (s .noMoreHoldings v h);
       }) in
-      subst (Sound t) (sym (stands t a s (a .sheet) u new)) sound
+      subst (Sound t) (sym (stands t a s (a .sheet) Stays u new)) sound
 
   pub lock-sound : (units : ℕ) → Sound t a → lockVerdict t (holding a u) u units ≡ Accepted → Sound t (applied a (lockChange a u units))
   unfolding lockVerdict lockChange

@@ -1,4 +1,4 @@
--- Where every place is free nothing is left, held or reserved at any, so every total over the orders is zero and no number names an order.
+-- Where every place is free nothing is left, held or reserved at any, so every total over the orders is zero, no number names an order, and only what waits is held.
 use mathlib.Core.Path.{_≡_, refl, ap, _∙_}
 use mathlib.Core.Bool.{Bool, _&&_}
 use Prim.Native.Nat.{ℕ, _≤_}
@@ -23,7 +23,7 @@ pub record NoOrders (t : Tables) (a : Account) : Type 0 where
   pub resting : (which : ℕ → Bool) (u : ℕ) → restingIn which t a u ≡ 0
   pub closes : (kind : OrderKind) (c : ℕ) → restingOn kind a c ≡ 0
   pub reserve : (u : ℕ) → reservedUnits t a u ≡ 0
-  pub holds : holdsIn t a ≡ 0
+  pub holds : holdsIn t a ≡ a .waiting
 
 module _ (t : Tables) (a : Account) (orders : a .orders ≡ replicate 32 free) where
   each : (i : ℕ) → order a i ≡ free
@@ -42,5 +42,5 @@ module _ (t : Tables) (a : Account) (orders : a .orders ≡ replicate 32 free) w
         resting = λ which u. over _ (nothing-when (which 0 && isOf t u 0));
         closes = λ kind c. over _ (nothing-when (isKind kind 0 && eqb 0 c));
         reserve = λ u. over _ refl;
-        holds = over (holdOf t) (nothing-held t);
+        holds = omega (arith, over (holdOf t) (nothing-held t));
       }

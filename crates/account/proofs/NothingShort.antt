@@ -5,40 +5,34 @@ use Prim.Native.Nat.{ℕ, _+_, _≤_, _<_}
 use native.Mathlib.Omega.{arith}
 use borrow.Author.Tests.{leb-true, ltb-true, eq-eqb}
 use lib.Dec.{leb, ltb}
-use lib.IntN.{pos}
-use lib.Signed.{leZ}
 use Rattle.terms.specs.Codes.{kindCode}
 use Rattle.terms.specs.Kinds.{movesOf, opensOf, buysOf}
 use Rattle.terms.specs.declared.kind.OrderKind.the-variants.{BuyOpen, BuyClose}
-use Rattle.terms.specs.declared.refusal.Refusal.the-variants.{OutOfRange, NoSuchOrder, SpareTooFew, AvailablePassed}
+use Rattle.terms.specs.declared.refusal.Refusal.the-variants.{OutOfRange, NoSuchOrder, SpareTooFew}
 use Rattle.rules.specs.Count.{forCount}
 use Rattle.entries.specs.declared.entry.Fill.{Fill}
 use Rattle.account.specs.Fills.{placeOf, named, paid, fillVerdict, cancelVerdict}
 use Rattle.account.specs.Locks.{unitsAllowed, unlockVerdict}
-use Rattle.account.specs.Money.{availableOf, kindOf}
+use Rattle.account.specs.Money.{kindOf}
 use Rattle.account.specs.Rows.{contract, holding, order}
 use Rattle.account.specs.Sound.{Sound}
 use Rattle.account.specs.Sums.{_when_}
 use Rattle.account.specs.Totals.{countOf, isKind, coveredUnits, reservedUnits, spareUnits}
-use Rattle.account.specs.Transfers.{amountAllowed, withdrawVerdict}
+use Rattle.account.specs.Transfers.{withdrawVerdict}
 use Rattle.account.specs.declared.account.Account.{Account}
 use Rattle.account.specs.declared.judged.Named.{Named}
 use Rattle.account.specs.declared.judged.Verdict.the-variants.{Accepted}
 use Rattle.account.specs.declared.tables.Tables.{Tables}
-use Rattle.account.proofs.Available.{reaches}
 use Rattle.account.proofs.CancelSound as cancels
 use Rattle.account.proofs.FillSound as fills
 use Rattle.account.proofs.Moved.{margin-moved}
 use Rattle.account.proofs.Passed.{went-on}
 use Rattle.account.proofs.Taken.{resting-taken, holds-taken}
+use Rattle.account.proofs.TransferSound.{asked}
 
--- what is withdrawn is available: what is held and what is asked as margin stays
-pub withdraw-exact : (a : Account) (amount : ℕ) → withdrawVerdict (a .sheet) amount ≡ Accepted → a .sheet .holds + a .sheet .margin + amount ≤ a .sheet .cash
-unfolding withdrawVerdict
-withdraw-exact a amount e =
-    let range = went-on (amountAllowed amount) OutOfRange _ e in
-    let within = went-on (leZ (pos amount) (availableOf (a .sheet))) AvailablePassed _ (range .1) in
-    leb-true _ _ (sym (reaches (a .sheet) amount) ∙ within .0)
+-- what is asked for is available: what is held and what is asked as margin stays
+pub withdraw-exact : (a : Account) (amount : ℕ) → withdrawVerdict (a .sheet) (a .waiting) amount ≡ Accepted → a .sheet .holds + a .sheet .margin + amount ≤ a .sheet .cash
+withdraw-exact a amount e = asked a amount e .within
 
 pub spare-exact : (t : Tables) (a : Account) (u : ℕ) → Sound t a → u < t .m → spareUnits t a u .0 + coveredUnits t a u + reservedUnits t a u ≡ holding a u .locked .0
 unfolding spareUnits

@@ -57,6 +57,8 @@ module _ (t : Tables) (cash : ℕ) where
         holdingRows = length-replicate 8 noHolding;
         ceiling = omega arith;
         holds = sym (none .holds);
+        reach = omega arith;
+        waiting = omega arith;
         margin = sym (over-positions (λ c p. forCount (p .short .0) (marginOne t c)) (λ c. zero-mul _));
         rights = λ u h. omega (arith, no-count Long u, none .resting (isKind BuyOpen) u);
         total = λ u h. omega (arith, no-count Long u, no-count Short u, no-count Covered u, none .resting isOpen u);

@@ -1,10 +1,10 @@
 -- An accepted order keeps the account sound: each total grows by the order's own term, in its own underlying or on its own contract, and the check that its kind meets left room for it. Its number is above all that rest, so it names no other order.
 use mathlib.Core.Path.{_≡_, refl, sym, ap, _∙_}
 use mathlib.Core.Bool.{Bool, true, false, _&&_}
-use mathlib.Core.Logic.{_≢_}
+use mathlib.Core.Logic.{_≢_, _⊎_, inl, inr, ⊎-elim}
 use Prim.Native.Nat.{ℕ, zero, suc, _+_, _*_, _≤_, _<_}
 use native.Mathlib.Decide.{ℕ-discrete}
-use native.Mathlib.Nat.{le-refl}
+use native.Mathlib.Nat.{le-refl, mul-zero}
 use native.Mathlib.Omega.{arith}
 use borrow.Author.Tests.{eqb-true}
 use lib.Dec.{eqb}
@@ -12,15 +12,19 @@ use lib.ListN.{length-set}
 use Rattle.terms.specs.Codes.{kindCode}
 use Rattle.terms.specs.Kinds.{movesOf, opensOf}
 use Rattle.terms.specs.declared.kind.OrderKind.{OrderKind}
-use Rattle.terms.specs.declared.kind.OrderKind.the-variants.{BuyOpen, CoveredOpen}
+use Rattle.terms.specs.declared.kind.OrderKind.the-variants.{BuyOpen, SellClose, SellOpen, BuyClose, CoveredOpen, CoveredClose}
 use Rattle.terms.specs.declared.kind.OrderKindCoded.the-variants.{Listed}
 use Rattle.terms.specs.declared.kind.Side.{Side}
 use Rattle.terms.specs.declared.kind.Side.the-variants.{Long, Short, Covered}
 use Rattle.terms.proofs.Codes.{kind-read}
 use Rattle.terms.proofs.Ranges.{first-holds, second-holds}
+use Rattle.rules.specs.Count.{forCount}
+use Rattle.entries.specs.declared.entry.Contract.{Contract}
 use Rattle.entries.specs.declared.entry.Order.{Order}
+use Rattle.entries.specs.declared.entry.Underlying.{Underlying}
 use Rattle.account.specs.Changes.{applied}
-use Rattle.account.specs.Checks.{orderVerdict}
+use Rattle.account.specs.Checks.{Available, meets, orderVerdict}
+use Rattle.account.specs.Money.{holdBy}
 use Rattle.account.specs.Orders.{under, orderAllowed, freePlace, factsOf, rested, orderChange}
 use Rattle.account.specs.Rows.{free, noPosition, contract, underlying, position, holding, order}
 use Rattle.account.specs.Sound.{SoundOrder, Sound}
@@ -41,6 +45,15 @@ use Rattle.account.proofs.Placed.{order-there, order-elsewhere, each-or
 fits : (test : Bool) (total more limit : ℕ) → total ≤ limit → (test ≡ true → total + more ≤ limit) → total + (more when test) ≤ limit
 fits true total more limit h room = room refl
 fits false total more limit h room = omega arith
+
+-- an order that is not held to what is available holds nothing
+checked-or-none : (kind : OrderKind) (k : Contract) (u : Underlying) (price : ℕ) → (meets kind Available ≡ true) ⊎ (holdBy kind k u price ≡ 0)
+checked-or-none BuyOpen k u price = inl refl
+checked-or-none SellClose k u price = inr refl
+checked-or-none SellOpen k u price = inl refl
+checked-or-none BuyClose k u price = inl refl
+checked-or-none CoveredOpen k u price = inr refl
+checked-or-none CoveredClose k u price = inl refl
 
 -- numbers that are at most the last, and one above it put among them: still no two are the same
 apart : (old new : ℕ → ℕ) (place last number : ℕ) → last < number → new place ≡ number → ((i : ℕ) → i ≢ place → new i ≡ old i) → ((i : ℕ) → i < 32 → old i ≤ last)
@@ -117,6 +130,15 @@ module _ (t : Tables) (a : Account) (o : Order) (s : Sound t a) (p : Passed t a 
       let room = within (isKind CoveredOpen) used (λ v. holding a v .locked .0) needed (s .units) (λ e. omega (arith, in-own, p .spare (is-kind CoveredOpen (o .kind) e))) u h in
       omega (arith, room, covered-kept t a (after t a o) (positions-after t a o s p) u, reserved-after t a o s p u, locked-after t a o s p u)
 
+  reach-after : after t a o .sheet .holds ≤ after t a o .sheet .cash
+  unfolding applied orderChange forCount
+  reach-after =
+      let k = contract t (o .contract) in
+      ⊎-elim
+      (λ checked. omega (arith, p .hold checked))
+      (λ none. omega (arith, s .reach, ap (o .quantity *_) none, mul-zero (o .quantity)))
+      (checked-or-none (o .kind) k (underlying t (k .underlying)) (o .price))
+
   closes-after : (kind : OrderKind) → opensOf kind ≡ false → (c : ℕ) → restingOn kind (after t a o) c ≤ countOf (movesOf kind) (position (after t a o) c)
   closes-after kind close c =
       let joins = isKind kind (kindCode (o .kind)) in
@@ -147,6 +169,8 @@ module _ (t : Tables) (a : Account) (o : Order) (s : Sound t a) (p : Passed t a 
         holdingRows = length-set (a .holdings) (under t o) _ ∙ s .holdingRows;
         ceiling = s .ceiling;
         holds = holds-after t a o s p;
+        reach = reach-after;
+        waiting = s .waiting;
         margin = s .margin ∙ sym (margin-kept t a (after t a o) (positions-after t a o s p));
         rights = rights-after;
         total = total-after;

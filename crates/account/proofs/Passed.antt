@@ -1,5 +1,5 @@
 -- A verdict is `Accepted` only where no check refused, so an accepted order passed each check that its kind meets; and it passed the first, so its facts are those of its contract and underlying.
-use mathlib.Core.Path.{_≡_, refl, ap, subst, _∙_}
+use mathlib.Core.Path.{_≡_, refl, sym, ap, subst, _∙_}
 use mathlib.Core.Bool.{Bool, true, false, cond, not, _||_, false≢true}
 use mathlib.Core.List.{List, [], _∷_}
 use Prim.Native.Nat.{ℕ, zero, suc, _+_, _*_, _≤_, _<_}
@@ -11,8 +11,10 @@ use Rattle.terms.specs.Kinds.{movesOf, opensOf}
 use Rattle.terms.specs.declared.kind.OrderKind.{OrderKind}
 use Rattle.terms.specs.declared.kind.OrderKind.the-variants.{BuyOpen, SellClose, SellOpen, BuyClose, CoveredOpen, CoveredClose}
 use Rattle.terms.specs.declared.refusal.Refusal.{Refusal}
+use Rattle.rules.specs.Count.{forCount}
 use Rattle.entries.specs.declared.entry.Order.{Order}
 use Rattle.account.specs.Checks.{Check, Values, Number, Places, Closing, Rights, Total, Daily, Spare, Available, passes, columns, refusalFor, meets, walked, orderVerdict}
+use Rattle.account.specs.Money.{holdOne}
 use Rattle.account.specs.Orders.{under, orderAllowed, freePlace, factsIn, noFacts, factsOf}
 use Rattle.account.specs.Rows.{contract, underlying, position, holding}
 use Rattle.account.specs.Totals.{countOf, restingOn, rightsIn, totalIn, spareUnits}
@@ -22,6 +24,7 @@ use Rattle.account.specs.declared.judged.Facts.{Facts}
 use Rattle.account.specs.declared.judged.Verdict.{Verdict}
 use Rattle.account.specs.declared.judged.Verdict.the-variants.{Accepted}
 use Rattle.account.specs.declared.tables.Tables.{Tables}
+use Rattle.account.proofs.Available.{reaches}
 
 -- a check before an accepted verdict was passed, and what follows it accepted
 pub went-on : (passed : Bool) (why : Refusal) (rest : Verdict) → (passed else why then rest) ≡ Accepted → (passed ≡ true) × (rest ≡ Accepted)
@@ -81,6 +84,7 @@ pub record Passed (t : Tables) (a : Account) (o : Order) : Type 0 where
   pub total : opensOf (o .kind) ≡ true → totalIn t a (under t o) + o .quantity ≤ underlying t (under t o) .total
   pub daily : o .kind ≡ BuyOpen → holding a (under t o) .bought .0 + o .quantity ≤ underlying t (under t o) .daily
   pub spare : o .kind ≡ CoveredOpen → o .quantity * contract t (o .contract) .unit ≤ spareUnits t a (under t o) .0
+  pub hold : meets (o .kind) Available ≡ true → a .sheet .holds + a .sheet .margin + forCount (o .quantity) (holdOne t (o .kind) (o .contract) (o .price)) ≤ a .sheet .cash
 
 module _ (t : Tables) (a : Account) (o : Order) where
   -- of an order that is not allowed nothing is known, and the first check fails
@@ -109,4 +113,5 @@ module _ (t : Tables) (a : Account) (o : Order) where
         total = λ opens. leb-true _ _ (known Total (rows .total ∙ opens));
         daily = λ buys. leb-true _ _ (known Daily (ap (λ (kind : OrderKind). meets kind Daily) buys));
         spare = λ covers. leb-true _ _ (known Spare (ap (λ (kind : OrderKind). meets kind Spare) covers));
+        hold = λ holds. leb-true _ _ (sym (reaches (a .sheet) _) ∙ known Available holds);
       }

@@ -93,10 +93,11 @@ after-number r q = go (eqb (r .left .0) q)
     go true never = absurd (omega (arith, never))
     go false some = refl
 
--- b's orders are a's with q taken from the one at a place
+-- b's orders are a's with q taken from the one at a place, and the same waits
 pub record Takes (t : Tables) (a b : Account) (place q : ℕ) : Type 0 where
   pub sound : Sound t a
   pub put : Put a b place (orderAfter (order a place) q)
+  pub waits : b .waiting ≡ a .waiting
   pub some : 1 ≤ order a place .number
   pub enough : q ≤ order a place .left .0
 
@@ -123,7 +124,7 @@ module _ {t : Tables} {a b : Account} {place q : ℕ} (taken : Takes t a b place
   -- so what is freed was held
   pub holds-taken : holdsIn t b + forCount q (holdOne t (kindOf r) (r .contract) (r .price)) ≡ holdsIn t a
   unfolding holdsIn holdOf forCount
-  holds-taken = over-taken (holdOf t) (nothing-held t) (additive-times (holdOne t (kindOf r) (r .contract) (r .price)) true)
+  holds-taken = omega (arith, taken .waits, over-taken (holdOf t) (nothing-held t) (additive-times (holdOne t (kindOf r) (r .contract) (r .price)) true))
 
   pub places-taken : (i : ℕ) → i < 32 → Place t (a .last) (order b i)
   places-taken =

@@ -1,47 +1,88 @@
--- A deposit and a withdrawal change cash alone. A deposit was within the ceiling with what it adds; what a withdrawal leaves is no more than there was.
+-- A deposit and a payout change money alone. A deposit was within the ceiling with what it adds; what is asked for was available and is held while it waits, so that cash reaches for it when it is paid.
 use mathlib.Core.Path.{_≡_, refl, sym, _∙_, ap, subst}
-use Prim.Native.Nat.{ℕ, _+_, _-_, _≤_}
+use Prim.Native.Nat.{ℕ, _+_, _≤_}
 use native.Mathlib.Omega.{arith}
+use borrow.Author.Tests.{eqb-true, leb-true}
+use lib.Dec.{eqb}
+use lib.IntN.{pos}
 use lib.Seq.{set-out}
+use lib.Signed.{leZ}
 use Rattle.terms.specs.Ranges.{rangeOf, _∈_}
-use Rattle.terms.specs.declared.measure.Measure.the-variants.{Money}
-use Rattle.terms.specs.declared.refusal.Refusal.the-variants.{OutOfRange, CeilingPassed}
+use Rattle.terms.specs.declared.measure.Measure.the-variants.{Money, Transfer}
+use Rattle.terms.specs.declared.refusal.Refusal.the-variants.{OutOfRange, CeilingPassed, AvailablePassed, AlreadyWaiting}
 use Rattle.terms.proofs.Ranges.{inside}
-use Rattle.account.specs.Changes.{applied, ofSheet}
+use Rattle.account.specs.Changes.{applied, ofSheet, waitingAfter}
+use Rattle.account.specs.Money.{availableOf}
 use Rattle.account.specs.Rows.{noHolding}
 use Rattle.account.specs.Sound.{Sound}
-use Rattle.account.specs.Transfers.{amountAllowed, depositVerdict, depositChange, withdrawVerdict, withdrawChange}
+use Rattle.account.specs.Transfers.{amountAllowed, depositVerdict, depositChange, withdrawVerdict, withdrawChange, payChange, dropChange}
 use Rattle.account.specs.declared.account.Account.{Account}
 use Rattle.account.specs.declared.account.Sheet.{Sheet}
 use Rattle.account.specs.declared.judged.Verdict.the-variants.{Accepted}
+use Rattle.account.specs.declared.judged.Waiting.{Waiting}
 use Rattle.account.specs.declared.tables.Tables.{Tables}
+use Rattle.account.proofs.Available.{reaches}
+use Rattle.account.proofs.Bounds.{payout-sound}
 use Rattle.account.proofs.Passed.{went-on}
-use Rattle.account.proofs.Standing.{standing, standing-sound, stands}
+use Rattle.account.proofs.Standing.{Moneyed, standing, standing-sound, stands}
 
--- a sheet with another cash
-abbrev withCash : Sheet → ℕ → Sheet
-withCash s cash = record { cash = cash; premium = s .premium; holds = s .holds; margin = s .margin }
+-- what an accepted withdrawal passed
+pub record Asked (a : Account) (amount : ℕ) : Type 0 where
+  pub most : amount ≤ 10_000_000_000_000
+  pub none : a .waiting ≡ 0
+  pub within : a .sheet .holds + a .sheet .margin + amount ≤ a .sheet .cash
 
-module _ (t : Tables) (a : Account) where
+pub asked : (a : Account) (amount : ℕ) → withdrawVerdict (a .sheet) (a .waiting) amount ≡ Accepted → Asked a amount
+unfolding withdrawVerdict
+asked a amount e =
+    let range = went-on (amountAllowed amount) OutOfRange _ e in
+    let none = went-on (eqb (a .waiting) 0) AlreadyWaiting _ (range .1) in
+    let within = went-on (leZ (pos amount) (availableOf (a .sheet))) AvailablePassed _ (none .1) in
+    record {
+      most = inside amount (rangeOf Transfer) (range .0) .1;
+      none = eqb-true _ _ (none .0);
+      within = leb-true _ _ (sym (reaches (a .sheet) amount) ∙ within .0);
+    }
+
+module _ (t : Tables) (a : Account) (s : Sound t a) where
   -- no underlying has the number 8
-  cash-sound : (cash : ℕ) → Sound t a → cash + a .sheet .premium ≤ 1_000_000_000_000_000 → Sound t (applied a (ofSheet (withCash (a .sheet) cash) (a .last)))
-  cash-sound cash s within =
-      let sheet = withCash (a .sheet) cash in
+  money-sound : (sheet : Sheet) (waiting : Waiting) → Moneyed a (standing a sheet (waitingAfter waiting (a .waiting)) (a .holdings)) → Sound t (applied a (ofSheet sheet waiting (a .last)))
+  money-sound sheet waiting money =
+      let after = waitingAfter waiting (a .waiting) in
       let holdings = set-out (a .holdings) 8 noHolding (omega (arith, s .holdingRows)) in
-      let same = stands t a s sheet 8 noHolding ∙ ap (standing a sheet) holdings in
+      let same = stands t a s sheet waiting 8 noHolding ∙ ap (standing a sheet after) holdings in
       let sound =
-      standing-sound t a s sheet (a .holdings)
-      (record { ceiling = within; holds = refl; margin = refl; rows = s .holdingRows; bought = λ u. refl; units = s .units; locked = s .locked; noMore = s .noMoreHoldings }) in
+      standing-sound t a s sheet after (a .holdings) money
+      (record { rows = s .holdingRows; bought = λ u. refl; units = s .units; locked = s .locked; noMore = s .noMoreHoldings }) in
       subst (Sound t) (sym same) sound
 
-  pub deposit-sound : (amount : ℕ) → Sound t a → depositVerdict (a .sheet) amount ≡ Accepted → Sound t (applied a (depositChange (a .sheet) (a .last) amount))
+  pub deposit-sound : (amount : ℕ) → depositVerdict (a .sheet) amount ≡ Accepted → Sound t (applied a (depositChange (a .sheet) (a .last) amount))
   unfolding depositVerdict depositChange
-  deposit-sound amount s e =
+  deposit-sound amount e =
       let total = a .sheet .cash + a .sheet .premium + amount in
       let after-range = went-on (amountAllowed amount) OutOfRange _ e .1 in
       let ceiling = went-on (total ∈ rangeOf Money) CeilingPassed _ after-range .0 in
-      cash-sound (a .sheet .cash + amount) s (omega (arith, inside total (rangeOf Money) ceiling .1))
+      money-sound _ _
+      (record { ceiling = omega (arith, inside total (rangeOf Money) ceiling .1); holds = refl; reach = omega (arith, s .reach); waiting = s .waiting; margin = refl })
 
-  pub withdraw-sound : (amount : ℕ) → Sound t a → withdrawVerdict (a .sheet) amount ≡ Accepted → Sound t (applied a (withdrawChange (a .sheet) (a .last) amount))
+  pub withdraw-sound : (amount : ℕ) → withdrawVerdict (a .sheet) (a .waiting) amount ≡ Accepted → Sound t (applied a (withdrawChange (a .sheet) (a .last) amount))
   unfolding withdrawChange
-  withdraw-sound amount s e = cash-sound (a .sheet .cash - amount) s (omega (arith, s .ceiling))
+  withdraw-sound amount e =
+      let passed = asked a amount e in
+      money-sound _ _
+      (record { ceiling = s .ceiling; holds = omega (arith, passed .none); reach = omega (arith, passed .within); waiting = passed .most; margin = refl })
+
+  -- what waits is among the holds, so that paid or dropped it leaves the orders' holds
+  pub pay-sound : Sound t (applied a (payChange (a .sheet) (a .last) (a .waiting)))
+  unfolding payChange
+  pay-sound =
+      let payout = payout-sound s in
+      money-sound _ _
+      (record { ceiling = omega (arith, s .ceiling); holds = omega (arith, payout .held); reach = omega (arith, s .reach); waiting = omega arith; margin = refl })
+
+  pub drop-sound : Sound t (applied a (dropChange (a .sheet) (a .last) (a .waiting)))
+  unfolding dropChange
+  drop-sound =
+      let payout = payout-sound s in
+      money-sound _ _
+      (record { ceiling = s .ceiling; holds = omega (arith, payout .held); reach = omega (arith, s .reach); waiting = omega arith; margin = refl })

@@ -11,23 +11,32 @@ use Rattle.account.specs.declared.judged.Decision.{Decision}
 use Rattle.account.specs.declared.judged.Decision.the-variants as Decision·of
 use Rattle.account.specs.declared.judged.Verdict.{Verdict}
 use Rattle.account.specs.declared.judged.Verdict.the-variants.{Accepted, Refused}
+use Rattle.account.specs.declared.judged.Waiting.{Waiting}
+use Rattle.account.specs.declared.judged.Waiting.the-variants.{Stays, Becomes}
+
+-- what waits after a change (house)
+abbrev pub waitingAfter : Waiting → ℕ → ℕ
+waitingAfter Stays before = before
+waitingAfter (Becomes amount) before = amount
 
 -- the account after a change, whole (house)
 unfoldable pub applied : Account → Change → Account
 applied a change =
     record {
       sheet = change .sheet;
+      waiting = waitingAfter (change .waiting) (a .waiting);
       positions = set (a .positions) (change .contract) (change .position);
       orders = set (a .orders) (change .place) (change .order);
       holdings = set (a .holdings) (change .underlying) (change .holding);
       last = change .last;
     }
 
--- a change of the sheet alone; 64, 32 and 8 are past the last contract, place and underlying and name none (house)
-abbrev pub ofSheet : Sheet → ℕ → Change
-ofSheet sheet last =
+-- a change of money alone; 64, 32 and 8 are past the last contract, place and underlying and name none (house)
+abbrev pub ofSheet : Sheet → Waiting → ℕ → Change
+ofSheet sheet waiting last =
     record {
       sheet = sheet;
+      waiting = waiting;
       contract = 64;
       position = noPosition;
       place = 32;
@@ -37,11 +46,12 @@ ofSheet sheet last =
       last = last;
     }
 
--- a change that moves no position: the sheet, one place and one underlying's holding (house)
-abbrev pub withoutPosition : Sheet → ℕ → Resting → ℕ → Holding → ℕ → Change
-withoutPosition sheet place order underlying holding last =
+-- a change that moves no position: money, one place and one underlying's holding (house)
+abbrev pub withoutPosition : Sheet → Waiting → ℕ → Resting → ℕ → Holding → ℕ → Change
+withoutPosition sheet waiting place order underlying holding last =
     record {
       sheet = sheet;
+      waiting = waiting;
       contract = 64;
       position = noPosition;
       place = place;

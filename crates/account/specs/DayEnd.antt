@@ -47,16 +47,17 @@ dayEndVerdict t n m f =
 
 -- an account with another sheet, and one with other holdings, all else the same (house)
 abbrev pub withSheet : Account → Sheet → Account
-withSheet a sheet = record { sheet = sheet; positions = a .positions; orders = a .orders; holdings = a .holdings; last = a .last }
+withSheet a sheet = record { sheet = sheet; waiting = a .waiting; positions = a .positions; orders = a .orders; holdings = a .holdings; last = a .last }
 
 abbrev pub withHoldings : Account → (ℕ → Holding) → Account
-withHoldings a each = record { sheet = a .sheet; positions = a .positions; orders = a .orders; holdings = listed 8 each; last = a .last }
+withHoldings a each = record { sheet = a .sheet; waiting = a .waiting; positions = a .positions; orders = a .orders; holdings = listed 8 each; last = a .last }
 
--- "all orders cancelled": no order rests and nothing is held (Day end)
+-- "all orders cancelled": no order rests, and nothing is held but a payout that waits, which "survives day end" (Day end; #101)
 unfoldable pub ordersCancelled : Account → Account
 ordersCancelled a =
     record {
-      sheet = record { cash = a .sheet .cash; premium = a .sheet .premium; holds = 0; margin = a .sheet .margin };
+      sheet = record { cash = a .sheet .cash; premium = a .sheet .premium; holds = a .waiting; margin = a .sheet .margin };
+      waiting = a .waiting;
       positions = a .positions;
       orders = replicate 32 free;
       holdings = a .holdings;
@@ -66,7 +67,7 @@ ordersCancelled a =
 -- "each contract netted, long against short first, then what is left of long against covered" (002, question 20)
 unfoldable pub positionsNetted : Account → Account
 positionsNetted a =
-    record { sheet = a .sheet; positions = map netted (a .positions); orders = a .orders; holdings = a .holdings; last = a .last }
+    record { sheet = a .sheet; waiting = a .waiting; positions = map netted (a .positions); orders = a .orders; holdings = a .holdings; last = a .last }
 
 -- "new settlement and close figures installed", in the rows that the tables have (Day end)
 abbrev pub settled : Contract → ℕ → Contract

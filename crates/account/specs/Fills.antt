@@ -27,6 +27,7 @@ use Rattle.account.specs.declared.judged.Change.{Change}
 use Rattle.account.specs.declared.judged.Named.{Named}
 use Rattle.account.specs.declared.judged.Verdict.{Verdict}
 use Rattle.account.specs.declared.judged.Verdict.the-variants.{Accepted}
+use Rattle.account.specs.declared.judged.Waiting.the-variants.{Stays}
 use Rattle.account.specs.declared.tables.Tables.{Tables}
 
 -- the place of the resting order with a number, 32 where none has it; 0 is no order's number (Refusal numbers, 7)
@@ -124,6 +125,7 @@ fillChange f fill =
     let kind = kindOf (f .order) in
     record {
       sheet = sheetAfter f fill kind;
+      waiting = Stays;
       contract = f .order .contract;
       position = moved (movesOf kind) (opensOf kind) (fill .quantity) (f .position);
       place = f .place;
@@ -144,6 +146,7 @@ cancelChange f =
     let s = f .sheet in
     withoutPosition
     (record { cash = s .cash; premium = s .premium; holds = s .holds - forCount left (f .hold); margin = s .margin })
+    Stays
     (f .place)
     free
     (f .underlying)

@@ -1,4 +1,4 @@
--- The refusals of an open account's entries, each as one list in document 01's order and numbers ("Refusal numbers", its table and last paragraph; "Numbers"): the first test that holds gives the number.
+-- The refusals of an open account's entries, each as one list in document 01's order and numbers ("Refusal numbers", its table and last paragraph; "Numbers"), document 02's among them: the first test that holds gives the number.
 use mathlib.Core.Bool.{Bool, true, false, cond, not, _&&_, _||_}
 use mathlib.Core.List.{List, [], _∷_}
 use Prim.Native.Nat.{ℕ, zero, suc, _+_}
@@ -91,10 +91,16 @@ depositTests s amount =
     ∷ (s .cash + s .premium + amount above 1_000_000_000_000_000, 15)  -- "ceilings: cash plus covered premium 10^15"
     ∷ []
 
-abbrev pub withdrawTests : Sheet → ℕ → List (Bool × ℕ)
-withdrawTests s amount =
+abbrev pub withdrawTests : Sheet → ℕ → ℕ → List (Bool × ℕ)
+withdrawTests s waiting amount =
     (outside 1 10_000_000_000_000 amount, 4)  -- "deposit or withdrawal 1 to 10^13"
+    ∷ (not (eqb waiting 0), 20)  -- "20 for a second request, after 4 and before 14" (#101)
     ∷ (not (leZ (pos amount) (availableOf s)), 14)  -- "withdrawal greater than available"
+    ∷ []
+
+abbrev pub payoutTests : ℕ → List (Bool × ℕ)
+payoutTests waiting =
+    (eqb waiting 0, 19)  -- "19 for 9 or 10 with nothing waiting" (#101)
     ∷ []
 
 abbrev pub lockTests : Tables → Holding → ℕ → ℕ → List (Bool × ℕ)
@@ -128,13 +134,15 @@ setUpTests =
 -- the list of an entry (house)
 abbrev pub entryTests : Tables → Account → Entry → Figures → List (Bool × ℕ)
 entryTests t a (Entry·of.Deposit amount) f = depositTests (a .sheet) amount
-entryTests t a (Entry·of.Withdraw amount) f = withdrawTests (a .sheet) amount
+entryTests t a (Entry·of.Withdraw amount) f = withdrawTests (a .sheet) (a .waiting) amount
 entryTests t a (Entry·of.Lock u units) f = lockTests t (holding a u) u units
 entryTests t a (Entry·of.Unlock u units) f = unlockTests t (spareUnits t a u) u units
 entryTests t a (Entry·of.Order o) f = orderTests t (factsIn t a o) o
 entryTests t a (Entry·of.Fill fill) f = fillTests (named t a (fill .number)) fill
 entryTests t a (Entry·of.Cancel number) f = cancelTests (named t a number)
 entryTests t a (Entry·of.DayEnd n m) f = dayEndTests t n m f
+entryTests t a Entry·of.Pay f = payoutTests (a .waiting)
+entryTests t a Entry·of.Drop f = payoutTests (a .waiting)
 entryTests t a (Entry·of.Underlying row) f = setUpTests
 entryTests t a (Entry·of.Contract row) f = setUpTests
 entryTests t a (Entry·of.Opening cash) f = setUpTests

@@ -14,6 +14,7 @@ use Rattle.account.specs.declared.account.Holding.{Holding}
 use Rattle.account.specs.declared.judged.Change.{Change}
 use Rattle.account.specs.declared.judged.Verdict.{Verdict}
 use Rattle.account.specs.declared.judged.Verdict.the-variants.{Accepted}
+use Rattle.account.specs.declared.judged.Waiting.the-variants.{Stays}
 use Rattle.account.specs.declared.tables.Tables.{Tables}
 
 -- "number not in the tables"; "units locked or unlocked at once 1 to 10^9" (Refusal numbers, 4; Numbers)
@@ -22,7 +23,7 @@ unitsAllowed t u units = ltb u (t .m) && (units ∈ rangeOf UnitsAtOnce)
 
 -- an underlying's holding with so many units locked (house)
 abbrev pub locking : Account → ℕ → ℕ → Change
-locking a u units = withoutPosition (a .sheet) 32 free u (record { locked = record { 0 = units }; bought = holding a u .bought }) (a .last)
+locking a u units = withoutPosition (a .sheet) Stays 32 free u (record { locked = record { 0 = units }; bought = holding a u .bought }) (a .last)
 
 -- "ceilings: .. locked units of one underlying 2 x 10^9" (Numbers)
 unfoldable pub lockVerdict : Tables → Holding → ℕ → ℕ → Verdict

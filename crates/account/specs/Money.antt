@@ -1,5 +1,5 @@
 -- The money sheet: what one contract costs at the figures in force, holds, margin, available (The account; Orders and fills).
-use Prim.Native.Nat.{ℕ}
+use Prim.Native.Nat.{ℕ, _+_}
 use lib.IntN.{ℤ, pos, _-ℤ_}
 use Rattle.terms.specs.Codes.{kindCoded}
 use Rattle.terms.specs.declared.kind.OrderKind.{OrderKind}
@@ -51,9 +51,9 @@ kindOf r = answered (kindCoded (r .kind))
 unfoldable pub holdOf : Tables → Resting → ℕ
 holdOf t r = forCount (r .left .0) (holdOne t (kindOf r) (r .contract) (r .price))
 
--- "order holds" (The account)
+-- "order holds", and a payout that waits: "the amount is held as an order hold is" (The account; #101)
 unfoldable pub holdsIn : Tables → Account → ℕ
-holdsIn t a = overOrders a (holdOf t)
+holdsIn t a = overOrders a (holdOf t) + a .waiting
 
 -- "margin: over all contracts, short x margin at the prior figures" (The account)
 unfoldable pub marginIn : Tables → Account → ℕ

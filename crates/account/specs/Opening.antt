@@ -4,11 +4,12 @@ use lib.ListN.{replicate}
 use Rattle.account.specs.Rows.{free, noPosition, noHolding}
 use Rattle.account.specs.declared.account.Account.{Account}
 
--- cash alone; 64 positions, 32 places and 8 holdings with nothing in them (Numbers)
+-- cash alone; nothing waits, and 64 positions, 32 places and 8 holdings with nothing in them (Numbers)
 abbrev pub opening : ℕ → Account
 opening cash =
     record {
       sheet = record { cash = cash; premium = 0; holds = 0; margin = 0 };
+      waiting = 0;
       positions = replicate 64 noPosition;
       orders = replicate 32 free;
       holdings = replicate 8 noHolding;

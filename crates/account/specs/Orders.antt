@@ -26,6 +26,7 @@ use Rattle.account.specs.declared.account.Resting.{Resting}
 use Rattle.account.specs.declared.account.Sheet.{Sheet}
 use Rattle.account.specs.declared.judged.Change.{Change}
 use Rattle.account.specs.declared.judged.Facts.{Facts}
+use Rattle.account.specs.declared.judged.Waiting.the-variants.{Stays}
 use Rattle.account.specs.declared.tables.Tables.{Tables}
 
 -- "covered is for calls only", "covered kind on a put" (The account; Refusal numbers, 4)
@@ -115,4 +116,4 @@ withBought f o =
 
 -- what an accepted order changes: its place, the holds, the daily count and the last accepted number (house)
 unfoldable pub orderChange : Facts → Order → Change
-orderChange f o = withoutPosition (withHold f) (f .place) (rested o) (f .underlying) (withBought f o) (o .number)
+orderChange f o = withoutPosition (withHold f) Stays (f .place) (rested o) (f .underlying) (withBought f o) (o .number)

@@ -58,7 +58,9 @@ pub record Sound (t : Tables) (a : Account) : Type 0 where
   pub orderRows : length (a .orders) ≡ 32  -- the array has 32 rows
   pub holdingRows : length (a .holdings) ≡ 8  -- the array has 8 rows
   pub ceiling : a .sheet .cash + a .sheet .premium ≤ 1_000_000_000_000_000  -- the sums of money stay exact
-  pub holds : a .sheet .holds ≡ holdsIn t a  -- a cancel or a fill frees what was held, and no more
+  pub holds : a .sheet .holds ≡ holdsIn t a  -- a cancel, a fill, a payout paid or dropped frees what was held, and no more
+  pub reach : a .sheet .holds ≤ a .sheet .cash  -- cash reaches for all that is held, so also for what waits, whatever is available
+  pub waiting : a .waiting ≤ 10_000_000_000_000  -- what waits was in its range, so holds stay small
   pub margin : a .sheet .margin ≡ marginIn t a  -- a close frees what was asked, and no more
   pub rights : (u : ℕ) → u < t .m → rightsIn t a u ≤ underlying t u .rights  -- the rights limit holds
   pub total : (u : ℕ) → u < t .m → totalIn t a u ≤ underlying t u .total  -- the total limit holds, and bounds every count
@@ -77,8 +79,13 @@ pub record Sound (t : Tables) (a : Account) : Type 0 where
 -- a money sheet as a sound account has it: the sums can be added to and available is exact (house)
 pub record SoundSheet (s : Sheet) : Type 0 where
   pub ceiling : s .cash + s .premium ≤ 1_000_000_000_000_000  -- the ceiling of money
-  pub holds : s .holds ≤ 32 * (100 * 20_000_000_000)  -- 32 orders of 100 contracts, each below 2 x 10^10
+  pub holds : s .holds ≤ 32 * (100 * 20_000_000_000) + 10_000_000_000_000  -- 32 orders of 100 contracts, each below 2 x 10^10, and one payout
   pub margin : s .margin ≤ 64 * (10_000 * 20_000_000_000)  -- 64 contracts, of each as many as a limit allows
+
+-- a money sheet and what waits, as a sound account has them: what waits is held, and cash reaches for all that is (#101)
+pub record SoundPayout (s : Sheet) (waiting : ℕ) : Type 0 where
+  pub held : waiting ≤ s .holds
+  pub reach : s .holds ≤ s .cash
 
 -- sound after every entry of a list: what each of its outcomes leads to (demand 2)
 abbrev pub AllSound : List Outcome → Type 0

@@ -1,10 +1,13 @@
 -- An entry on tables and account, and a list of them: the verdict, and tables and account after it (Refusal numbers; Records).
+use mathlib.Core.Bool.{cond}
 use mathlib.Core.List.{List, [], _∷_}
 use Rattle.terms.specs.declared.refusal.Refusal.the-variants.{OutOfPlace}
+use Rattle.entries.specs.Entries.{kindOf}
+use Rattle.entries.specs.Table.{isDayEnd}
 use Rattle.entries.specs.declared.entry.Entry.{Entry}
-use Rattle.entries.specs.declared.entry.Entry.the-variants.{Deposit, Withdraw, Lock, Unlock, Order, Fill, Cancel, DayEnd, Underlying, Contract, Opening}
+use Rattle.entries.specs.declared.entry.Entry.the-variants.{Deposit, Withdraw, Lock, Unlock, Order, Fill, Cancel, DayEnd, Pay, Drop, Underlying, Contract, Opening}
 use Rattle.entries.specs.declared.entry.Figures.{Figures}
-use Rattle.account.specs.Changes.{applied}
+use Rattle.account.specs.Changes.{applied, ofSheet}
 use Rattle.account.specs.Checks.{orderVerdict}
 use Rattle.account.specs.DayEnd.{dayEndVerdict, figuresInstalled, dayEnded}
 use Rattle.account.specs.Fills.{named, fillVerdict, fillChange, cancelVerdict, cancelChange}
@@ -12,54 +15,56 @@ use Rattle.account.specs.Locks.{lockVerdict, lockChange, unlockVerdict, 
 use Rattle.account.specs.Orders.{factsOf, orderChange}
 use Rattle.account.specs.Rows.{holding}
 use Rattle.account.specs.Totals.{spareUnits}
-use Rattle.account.specs.Transfers.{depositVerdict, depositChange, withdrawVerdict, withdrawChange}
+use Rattle.account.specs.Transfers.{depositVerdict, depositChange, withdrawVerdict, withdrawChange, payoutVerdict, payChange, dropChange}
 use Rattle.account.specs.declared.account.Account.{Account}
+use Rattle.account.specs.declared.judged.Change.{Change}
 use Rattle.account.specs.declared.judged.Outcome.{Outcome}
 use Rattle.account.specs.declared.judged.Verdict.{Verdict}
 use Rattle.account.specs.declared.judged.Verdict.the-variants.{Accepted, Refused}
+use Rattle.account.specs.declared.judged.Waiting.the-variants.{Stays}
 use Rattle.account.specs.declared.tables.Tables.{Tables}
 
 -- the verdict on an entry, once the account is open; "record out of its place": set-up has ended (Refusal numbers, 5)
 unfoldable pub refusalOf : Tables → Account → Entry → Figures → Verdict
 refusalOf t a (Deposit amount) f = depositVerdict (a .sheet) amount
-refusalOf t a (Withdraw amount) f = withdrawVerdict (a .sheet) amount
+refusalOf t a (Withdraw amount) f = withdrawVerdict (a .sheet) (a .waiting) amount
 refusalOf t a (Lock u units) f = lockVerdict t (holding a u) u units
 refusalOf t a (Unlock u units) f = unlockVerdict t (spareUnits t a u) u units
 refusalOf t a (Order o) f = orderVerdict (factsOf t a o) o
 refusalOf t a (Fill fill) f = fillVerdict (named t a (fill .number)) fill
 refusalOf t a (Cancel number) f = cancelVerdict (named t a number)
 refusalOf t a (DayEnd n m) f = dayEndVerdict t n m f
+refusalOf t a Pay f = payoutVerdict (a .waiting)
+refusalOf t a Drop f = payoutVerdict (a .waiting)
 refusalOf t a (Underlying row) f = Refused OutOfPlace
 refusalOf t a (Contract row) f = Refused OutOfPlace
 refusalOf t a (Opening cash) f = Refused OutOfPlace
 
--- the tables after an accepted entry: a day end alone installs new figures (Day end)
-unfoldable pub tablesAfter : Tables → Entry → Figures → Tables
-tablesAfter t (Deposit amount) f = t
-tablesAfter t (Withdraw amount) f = t
-tablesAfter t (Lock u units) f = t
-tablesAfter t (Unlock u units) f = t
-tablesAfter t (Order o) f = t
-tablesAfter t (Fill fill) f = t
-tablesAfter t (Cancel number) f = t
-tablesAfter t (DayEnd n m) f = figuresInstalled t f
-tablesAfter t (Underlying row) f = t
-tablesAfter t (Contract row) f = t
-tablesAfter t (Opening cash) f = t
+-- what an accepted entry changes; a day end changes more than one row, and set-up has ended: of these no change is ever applied (house)
+abbrev pub unchanged : Account → Change
+unchanged a = ofSheet (a .sheet) Stays (a .last)
 
--- the account after an accepted entry (house)
+abbrev pub changeOf : Tables → Account → Entry → Change
+changeOf t a (Deposit amount) = depositChange (a .sheet) (a .last) amount
+changeOf t a (Withdraw amount) = withdrawChange (a .sheet) (a .last) amount
+changeOf t a (Lock u units) = lockChange a u units
+changeOf t a (Unlock u units) = unlockChange a u units
+changeOf t a (Order o) = orderChange (factsOf t a o) o
+changeOf t a (Fill fill) = fillChange (named t a (fill .number)) fill
+changeOf t a (Cancel number) = cancelChange (named t a number)
+changeOf t a (DayEnd n m) = unchanged a
+changeOf t a Pay = payChange (a .sheet) (a .last) (a .waiting)
+changeOf t a Drop = dropChange (a .sheet) (a .last) (a .waiting)
+changeOf t a (Underlying row) = unchanged a
+changeOf t a (Contract row) = unchanged a
+changeOf t a (Opening cash) = unchanged a
+
+-- tables and account after an accepted entry: a day end alone installs new figures and goes through all rows, any other entry changes what it changes (Day end; house)
+unfoldable pub tablesAfter : Tables → Entry → Figures → Tables
+tablesAfter t entry f = cond (isDayEnd (kindOf entry)) (figuresInstalled t f) t
+
 unfoldable pub accountAfter : Tables → Account → Entry → Figures → Account
-accountAfter t a (Deposit amount) f = applied a (depositChange (a .sheet) (a .last) amount)
-accountAfter t a (Withdraw amount) f = applied a (withdrawChange (a .sheet) (a .last) amount)
-accountAfter t a (Lock u units) f = applied a (lockChange a u units)
-accountAfter t a (Unlock u units) f = applied a (unlockChange a u units)
-accountAfter t a (Order o) f = applied a (orderChange (factsOf t a o) o)
-accountAfter t a (Fill fill) f = applied a (fillChange (named t a (fill .number)) fill)
-accountAfter t a (Cancel number) f = applied a (cancelChange (named t a number))
-accountAfter t a (DayEnd n m) f = dayEnded (figuresInstalled t f) a
-accountAfter t a (Underlying row) f = a
-accountAfter t a (Contract row) f = a
-accountAfter t a (Opening cash) f = a
+accountAfter t a entry f = cond (isDayEnd (kindOf entry)) (dayEnded (figuresInstalled t f) a) (applied a (changeOf t a entry))
 
 -- "a refusal leaves the whole account equal" (Refusal numbers)
 abbrev pub outcome : Verdict → Tables → Account → Tables → Account → Outcome

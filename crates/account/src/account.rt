@@ -45,8 +45,10 @@ pub struct Holding {
     pub bought: Contracts,
 }
 
+// One request for a payout may wait; 0 where none does, since an amount that is asked for is at least 1.
 pub struct Account {
     pub sheet: Sheet,
+    pub waiting: u64,
     pub positions: [Position; terms::CONTRACTS],
     pub orders: [Resting; terms::PLACES],
     pub holdings: [Holding; terms::UNDERLYINGS],
@@ -54,7 +56,7 @@ pub struct Account {
 }
 
 impl Account {
-    // Cash alone: nothing is held, nothing rests, and no number was accepted.
+    // Cash alone: nothing is held, nothing waits or rests, and no number was accepted.
     pub fn opening(cash: u64) -> Account
         ensures { λ r. ⌜ r ≡ opening cash ⌝ }
     {
@@ -65,6 +67,7 @@ impl Account {
                 holds: 0,
                 margin: 0,
             },
+            waiting: 0,
             positions: [Position {
                 long: Contracts(0),
                 short: Contracts(0),
@@ -102,6 +105,8 @@ impl Account {
         }
         let sheet = change.sheet;
         after.sheet = sheet;
+        let waiting = change.waiting;
+        after.waiting = waiting.after(self.waiting);
         after.last = change.last;
         after
     }

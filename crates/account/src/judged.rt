@@ -10,7 +10,7 @@ use terms::Position;
 use terms::Refusal;
 use terms::Units;
 ghost use mathlib.Core.Path.{_≡_};
-ghost use Rattle.account.specs.Changes.{ofSheet, verdictIn, withoutPosition};
+ghost use Rattle.account.specs.Changes.{ofSheet, verdictIn, waitingAfter, withoutPosition};
 ghost use Rattle.account.specs.Verdicts.{numberIn};
 
 pub enum Verdict {
@@ -65,10 +65,28 @@ pub struct Named {
     pub last: u32,
 }
 
-// What an accepted entry leaves: the sheet, one contract's position, one place's order, one underlying's holding, and the last
+// What becomes of the payout that waits: it stays as it is, or so much waits from now on, 0 where nothing does any more.
+pub enum Waiting {
+    Stays,
+    Becomes(u64),
+}
+
+impl Waiting {
+    pub fn after(self, before: u64) -> u64
+        ensures { λ r. ⌜ r ≡ waitingAfter self before ⌝ }
+    {
+        match self {
+            Waiting::Stays => before,
+            Waiting::Becomes(amount) => amount,
+        }
+    }
+}
+
+// What an accepted entry leaves: the sheet, what waits, one contract's position, one place's order, one underlying's holding, and the last
 // accepted number. A contract, a place or an underlying past the last one names none, and then nothing of its sort changes.
 pub struct Change {
     pub sheet: Sheet,
+    pub waiting: Waiting,
     pub contract: usize,
     pub position: Position,
     pub place: usize,
@@ -79,9 +97,9 @@ pub struct Change {
 }
 
 impl Change {
-    // A change of the sheet alone.
-    pub fn of_sheet(sheet: Sheet, last: u32) -> Change
-        ensures { λ r. ⌜ r ≡ ofSheet sheet last ⌝ }
+    // A change of money alone.
+    pub fn of_sheet(sheet: Sheet, waiting: Waiting, last: u32) -> Change
+        ensures { λ r. ⌜ r ≡ ofSheet sheet waiting last ⌝ }
     {
         let holding = Holding {
             locked: Units(0),
@@ -89,6 +107,7 @@ impl Change {
         };
         Change::without_position(
             sheet,
+            waiting,
             terms::PLACES,
             Resting::free(),
             terms::UNDERLYINGS,
@@ -100,16 +119,18 @@ impl Change {
     // A change that moves no position.
     pub fn without_position(
         sheet: Sheet,
+        waiting: Waiting,
         place: usize,
         order: Resting,
         underlying: usize,
         holding: Holding,
         last: u32,
     ) -> Change
-        ensures { λ r. ⌜ r ≡ withoutPosition sheet place order underlying holding last ⌝ }
+        ensures { λ r. ⌜ r ≡ withoutPosition sheet waiting place order underlying holding last ⌝ }
     {
         Change {
             sheet,
+            waiting,
             contract: terms::CONTRACTS,
             position: Position {
                 long: Contracts(0),

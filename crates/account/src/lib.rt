@@ -14,5 +14,6 @@ pub use judged::Facts;
 pub use judged::Named;
 pub use judged::Outcome;
 pub use judged::Verdict;
+pub use judged::Waiting;
 pub use tables::Tables;
 pub use term::counted;

@@ -1,7 +1,7 @@
 -- Rounding is to the nearest, halves up: the quotient's two bounds say so. What is rounded is one contract's: a count multiplies what was rounded, so the shares of a part fill and of the rest add up to the whole.
 use mathlib.Core.Path.{_≡_, refl, _∙_, ap}
 use Prim.Native.Nat.{ℕ, _+_, _*_, _/_, _%_, _≤_, _<_}
-use native.Mathlib.Nat.{mul-div-le, lt-mul-div-succ, mul-assoc, mul-comm, add-mul}
+use native.Mathlib.Nat.{mul-div-le, lt-mul-div-succ, mul-assoc, mul-comm, mul-le-mul-right, add-mul}
 use native.Mathlib.Omega.{arith}
 use borrow.Author.Tests.{eqb-false}
 use Rattle.rules.specs.Count.{forCount}
@@ -23,6 +23,11 @@ hundreds U x h =
 pub premium-exact : (price U : ℕ) → U % 100 ≡ 0 → 100 * premiumOf price U ≡ price * U
 unfolding premiumOf
 premium-exact price U h = omega (arith, mul-comm price U, hundreds U price h)
+
+-- a premium rises with its price
+pub premium-rises : {price limit : ℕ} (U : ℕ) → price ≤ limit → premiumOf price U ≤ premiumOf limit U
+unfolding premiumOf
+premium-rises U below = omega (arith, mul-le-mul-right U below)
 
 -- the shares of a part fill and of the rest add up to the whole, since each contract was rounded by itself
 pub shares : (filled rest one : ℕ) → forCount (filled + rest) one ≡ forCount filled one + forCount rest one

@@ -15,6 +15,7 @@ opening-spec =
     (λ c i.
     record {
       sheet = record { cash = c .before .args .cash; premium = 0; holds = 0; margin = 0 };
+      waiting = 0;
       positions = replicate 64 noPosition;
       orders = replicate 32 (c .free .ensures i);
       holdings = replicate 8 noHolding;
