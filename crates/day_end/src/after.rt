@@ -25,7 +25,7 @@ struct Worked {
     holdings: [Holding; terms::UNDERLYINGS],
 }
 
-// Orders are cancelled and their holds freed, positions netted, margin worked at the new figures; covered premium joins cash, daily
+// Orders are cancelled and their holds freed, a payout that waits is held on; positions netted, margin worked at the new figures; covered premium joins cash, daily
 // counts are zero, and the units that cover stay locked.
 pub(crate) fn account_after(tables: Tables, account: Account) -> Account
     requires { ⌜ Sound tables (dayEnded tables account) ⌝ }
@@ -37,7 +37,14 @@ pub(crate) fn account_after(tables: Tables, account: Account) -> Account
     let sheet = account.sheet;
     let holdings = worked.holdings;
     Account {
-        sheet: posted(sheet, Posting::DayEnd(worked.margin)),
+        sheet: posted(
+            sheet,
+            Posting::DayEnd {
+                margin: worked.margin,
+                waiting: account.waiting,
+            },
+        ),
+        waiting: account.waiting,
         positions,
         orders: [Resting::free(); terms::PLACES],
         holdings,

@@ -6,6 +6,7 @@ use account::Holding;
 use account::Named;
 use account::Resting;
 use account::Tables;
+use account::Waiting;
 use account::counted;
 use postings::Posting;
 use postings::posted;
@@ -43,6 +44,7 @@ fn change(named: Named) -> Change
     let freed = posted(sheet, Posting::HoldFreed(left * named.hold));
     Change::without_position(
         freed,
+        Waiting::Stays,
         named.place,
         Resting::free(),
         named.underlying as usize,

@@ -7,6 +7,7 @@ use account::Change;
 use account::Decision;
 use account::Named;
 use account::Tables;
+use account::Waiting;
 use entries::Fill;
 use money::premium_one;
 use resting::Found;
@@ -73,6 +74,7 @@ fn change(named: Named, kind: OrderKind, fill: Fill, sum: u64) -> Change
     let holding = named.holding;
     Change {
         sheet: sheet_after(named, kind, fill, sum),
+        waiting: Waiting::Stays,
         contract: order.contract as usize,
         position: moved(kind.moves(), kind.opens(), fill.quantity, position),
         place: named.place,

@@ -3,6 +3,7 @@ use account::Change;
 use account::Facts;
 use account::Holding;
 use account::Resting;
+use account::Waiting;
 use account::counted;
 use entries::Order;
 use postings::Posting;
@@ -33,6 +34,7 @@ pub(crate) fn change(facts: Facts, order: Order) -> Change
     };
     Change::without_position(
         held,
+        Waiting::Stays,
         facts.place,
         rested,
         facts.underlying as usize,

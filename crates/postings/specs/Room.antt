@@ -13,4 +13,4 @@ Postable s (CashOut sum) = sum ≤ s .cash
 Postable s (CoveredPremium sum) = s .premium + sum < 2 ^ 64
 Postable s (MarginTaken sum) = s .margin + sum < 2 ^ 64
 Postable s (MarginFreed sum) = sum ≤ s .margin
-Postable s (DayEnd margin) = s .cash + s .premium < 2 ^ 64
+Postable s (DayEnd margin waiting) = s .cash + s .premium < 2 ^ 64

@@ -5,7 +5,7 @@ ghost use Rattle.postings.specs.Postings.{posted};
 ghost use Rattle.postings.specs.Room.{Postable};
 
 // Cash comes in and goes out by deposits and withdrawals, and by premium received and paid; a covered open's premium is no cash before
-// the day end, which joins the two, frees every hold and has the margin that was worked afresh.
+// the day end, which joins the two, frees every hold but that of a payout which waits, and has the margin that was worked afresh.
 pub enum Posting {
     HoldTaken(u64),
     HoldFreed(u64),
@@ -14,7 +14,7 @@ pub enum Posting {
     CoveredPremium(u64),
     MarginTaken(u64),
     MarginFreed(u64),
-    DayEnd(u64),
+    DayEnd { margin: u64, waiting: u64 },
 }
 
 // The sheet after a posting, by value.
@@ -45,10 +45,10 @@ fn after(sheet: Sheet, posting: Posting) -> Sheet
         Posting::MarginFreed(sum) => {
             after.margin = sheet.margin - sum;
         }
-        Posting::DayEnd(margin) => {
+        Posting::DayEnd { margin, waiting } => {
             after.cash = sheet.cash + sheet.premium;
             after.premium = 0;
-            after.holds = 0;
+            after.holds = waiting;
             after.margin = margin;
         }
     }

@@ -5,6 +5,7 @@ use account::Decision;
 use account::Holding;
 use account::Resting;
 use account::Tables;
+use account::Waiting;
 use terms::Measure;
 use terms::Refusal;
 use terms::Units;
@@ -67,6 +68,7 @@ fn locking(account: Account, underlying: usize, before: Holding, locked: u64) ->
     let sheet = account.sheet;
     Change::without_position(
         sheet,
+        Waiting::Stays,
         terms::PLACES,
         Resting::free(),
         underlying,

@@ -62,4 +62,4 @@ order-spec =
     (λ c.
     let judged = c .before .before .before in
     by-facts _ _ _ _ (judged .before .gather .ensures) _
-    (ap Decision·of.Changes (c .change .ensures) ∙ changes _ _ (sym (judged .verdict .ensures) ∙ c .before .enum-told .given .1))))
+    (changes _ _ (sym (judged .verdict .ensures) ∙ c .before .enum-told .given .1) _ (c .change .ensures))))

@@ -50,16 +50,17 @@ module _ (t : Tables) (a : Account) where
     summed : (ps : List Position) → ps ≡ map netted (a .positions) → Summed t ps
     summed ps e = subst (Summed t) (positions-after ∙ sym e) (positions-summed t (dayEnded t a) sound)
 
-  module _ (ps : List Position) (worked : Worked) (sheet : Sheet) (positioned : ps ≡ map netted (a .positions)) (is : worked ≡ workedTo t ps (t .n)) (joined : sheet ≡ posted (a .sheet) (DayEnd (worked .margin))) where
+  module _ (ps : List Position) (worked : Worked) (sheet : Sheet) (positioned : ps ≡ map netted (a .positions)) (is : worked ≡ workedTo t ps (t .n)) (joined : sheet ≡ posted (a .sheet) (DayEnd (worked .margin) (a .waiting))) where
     put-together : (empty : Resting) → empty ≡ free
-        → record { sheet = sheet; positions = ps; orders = replicate 32 empty; holdings = worked .holdings; last = a .last }
+        → record { sheet = sheet; waiting = a .waiting; positions = ps; orders = replicate 32 empty; holdings = worked .holdings; last = a .last }
         ≡ dayEnded t a
     unfolding dayEnded unitsReleased dailyZero premiumJoined marginAfresh positionsNetted ordersCancelled marginIn marginTo
     put-together empty none =
         let netted-so : worked ≡ workedTo t (map netted (a .positions)) (t .n) = is ∙ ap (λ (ps : List Position). workedTo t ps (t .n)) positioned in
         λ i.
         record {
-          sheet = (joined ∙ ap (λ (w : Worked). posted (a .sheet) (DayEnd (w .margin))) netted-so) i;
+          sheet = (joined ∙ ap (λ (w : Worked). posted (a .sheet) (DayEnd (w .margin) (a .waiting))) netted-so) i;
+          waiting = a .waiting;
           positions = positioned i;
           orders = replicate 32 (none i);
           holdings = (ap (λ (w : Worked). w .holdings) netted-so ∙ sym holdings-after) i;

@@ -13,6 +13,7 @@ use Rattle.account.specs.declared.account.Resting.{Resting}
 use Rattle.account.specs.declared.account.Sheet.{Sheet}
 use Rattle.account.specs.declared.judged.Change.{Change}
 use Rattle.account.specs.declared.judged.Named.{Named}
+use Rattle.account.specs.declared.judged.Waiting.the-variants.{Stays}
 use Rattle.postings.specs.Postings.{posted}
 use Rattle.postings.specs.declared.Posting.the-variants.{HoldFreed}
 use Rattle.fills.proofs.cancelled.change.Statement.{statement}
@@ -22,6 +23,7 @@ built : (f : Named) (sheet : Sheet) (place : Resting) (own : ℕ) (after : Chang
     → after
     ≡ withoutPosition
     sheet
+    Stays
     (f .place)
     place
     (f .underlying)

@@ -13,6 +13,7 @@ use Rattle.account.specs.Totals.{countOf}
 use Rattle.account.specs.declared.account.Resting.{Resting}
 use Rattle.account.specs.declared.account.Sheet.{Sheet}
 use Rattle.account.specs.declared.judged.Named.{Named}
+use Rattle.account.specs.declared.judged.Waiting.the-variants.{Stays}
 use Rattle.fills.specs.Takes.{Exact, Shifts}
 use Rattle.fills.proofs.filled.change.Statement.{statement}
 use Rattle.fills.proofs.filled.change.Tie as tie
@@ -25,6 +26,7 @@ module _ (f : Named) (fill : Fill) (kind : OrderKind) (sum : ℕ) (exact : Exact
       → sheet ≡ sheetAfter f fill kind → position ≡ moved side opens (fill .quantity) (f .position) → order ≡ orderAfter (f .order) (fill .quantity)
       → record {
         sheet = sheet;
+        waiting = Stays;
         contract = f .order .contract;
         position = position;
         place = f .place;

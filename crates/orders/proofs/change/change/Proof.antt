@@ -14,6 +14,7 @@ use Rattle.account.specs.Sums.{_when_}
 use Rattle.account.specs.Totals.{isKind}
 use Rattle.account.specs.declared.account.Sheet.{Sheet}
 use Rattle.account.specs.declared.judged.Facts.{Facts}
+use Rattle.account.specs.declared.judged.Waiting.the-variants.{Stays}
 use Rattle.orders.proofs.change.change.Statement.{statement}
 use Rattle.orders.proofs.change.change.Tie as tie
 
@@ -23,7 +24,7 @@ most before quantity own true e h = omega (arith, e, h)
 most before quantity own false e h = omega (arith, e, h)
 
 built : (f : Facts) (o : Order) (held : Sheet) (code own : ℕ) → held ≡ withHold f → code ≡ kindCode (o .kind) → own ≡ (o .quantity when isKind BuyOpen code)
-    → withoutPosition held (f .place)
+    → withoutPosition held Stays (f .place)
     (record { number = o .number; contract = o .contract; kind = code; left = record { 0 = o .quantity }; price = o .price })
     (f .underlying)
     (record { locked = f .holding .locked; bought = record { 0 = f .holding .bought .0 + own } })

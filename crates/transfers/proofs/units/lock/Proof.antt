@@ -1,6 +1,7 @@
 -- `lock` meets its contract: its two tests are the definition's, and what is locked and what comes fit together.
 use mathlib.Core.Path.{_≡_, refl, sym, _∙_}
 use mathlib.Core.Bool.{true}
+use mathlib.Core.List.{[], _∷_}
 use Prim.Native.Nat.{ℕ, _+_}
 use borrow.Author.Needs.{needs}
 use borrow.Author.Tests.{not-true, not-false}
@@ -9,27 +10,16 @@ use Rattle.terms.specs.declared.measure.Measure.the-variants.{LockedUnits}
 use Rattle.terms.specs.declared.refusal.Refusal.the-variants.{CeilingPassed, OutOfRange}
 use Rattle.account.specs.Locks.{lockChange, lockVerdict, unitsAllowed}
 use Rattle.account.specs.Rows.{holding}
-use Rattle.account.specs.Verdicts.{_else_then_}
 use Rattle.account.specs.declared.account.Holding.{Holding}
-use Rattle.account.specs.declared.judged.Verdict.the-variants.{Accepted}
 use Rattle.account.specs.declared.tables.Tables.{Tables}
-use Rattle.account.proofs.Decided.{TwoChecks, first-fails, second-fails, both-pass}
+use Rattle.account.proofs.Decided.{Checked, changes, fails, goes-on, refuses}
 use Rattle.transfers.proofs.Locked.{inside-rows, sum-fits}
 use Rattle.transfers.proofs.units.lock.Statement.{statement}
 use Rattle.transfers.proofs.units.lock.Tie as tie
 
-are : (t : Tables) (h : Holding) (u units : ℕ)
-    → lockVerdict t h u units ≡ (unitsAllowed t u units else OutOfRange then (h .locked .0 + units ∈ rangeOf LockedUnits) else CeilingPassed then Accepted)
+asked : (t : Tables) (h : Holding) (u units : ℕ) → Checked (lockVerdict t h u units) ((unitsAllowed t u units, OutOfRange) ∷ (h .locked .0 + units ∈ rangeOf LockedUnits, CeilingPassed) ∷ [])
 unfolding lockVerdict
-are t h u units = refl
-
-abbrev two : (t : Tables) (h : Holding) (u units : ℕ) → TwoChecks (lockVerdict t h u units)
-two t h u units =
-    record { first = unitsAllowed t u units; second = h .locked .0 + units ∈ rangeOf LockedUnits; why = OutOfRange; other = CeilingPassed; are = are t h u units }
-
--- the two checks on what the function was given
-abbrev checks : (start : tie.Start) → TwoChecks (lockVerdict (start .args .tables) (holding (start .args .t2) (start .args .underlying)) (start .args .underlying) (start .args .units))
-checks start = two (start .args .tables) (holding (start .args .t2) (start .args .underlying)) (start .args .underlying) (start .args .units)
+asked t h u units = record { are = refl }
 
 allowed : (c : tie.Else1) → unitsAllowed (c .before .before .args .tables) (c .before .before .args .underlying) (c .before .before .args .units) ≡ true
 allowed c = sym (c .before .allowed .ensures) ∙ not-false _ (c .if1 .left)
@@ -38,15 +28,15 @@ returns-3 : tie.Need-returns-3
 unfolding lockChange
 returns-3 c =
     let tested = c .before .before in
-    let asked = tested .before .before .before .before in
-    both-pass _ _ (checks (asked .before)) _ (asked .allowed .ensures) _ (tested .allows .ensures) (not-false _ (tested .before .before .before .if1 .left)) (not-false _ (c .before .if2 .left)) _ (c .locking .ensures)
+    let first = tested .before .before .before in
+    changes _ _ (goes-on (goes-on (asked _ _ _ _) (first .before .allowed .ensures) (not-false _ (first .if1 .left))) (tested .allows .ensures) (not-false _ (c .before .if2 .left)) .are) _ (c .locking .ensures)
 
 pub lock-spec : {M : Type 1} → statement M
 lock-spec =
     tie.close
     (tie.spec
     (λ c κs. search needs)
-    (λ c. first-fails _ _ (checks (c .before .before)) _ (c .before .allowed .ensures) (not-true _ (c .if1 .taken)))
+    (λ c. refuses _ _ _ (fails (asked _ _ _ _) (c .before .allowed .ensures) (not-true _ (c .if1 .taken))))
     (λ c. search needs)
     (λ c.
     let start = c .before .before in
@@ -57,7 +47,7 @@ lock-spec =
     (λ c κs. search needs)
     (λ c.
     let tested = c .before in
-    let asked = tested .before .before .before .before in
-    second-fails _ _ (checks (asked .before)) _ (asked .allowed .ensures) _ (tested .allows .ensures) (not-false _ (tested .before .before .before .if1 .left)) (not-true _ (c .if2 .taken)))
+    let first = tested .before .before .before in
+    refuses _ _ _ (fails (goes-on (asked _ _ _ _) (first .before .allowed .ensures) (not-false _ (first .if1 .left))) (tested .allows .ensures) (not-true _ (c .if2 .taken))))
     (λ c κs. refl)
     returns-3)

@@ -1,6 +1,7 @@
 -- `unlock` meets its contract: its two tests are the definition's, spare units being what is neither covered nor reserved, and no more is taken off than is spare.
 use mathlib.Core.Path.{_≡_, refl, sym, ap, _∙_}
 use mathlib.Core.Bool.{Bool, true, false}
+use mathlib.Core.List.{[], _∷_}
 use Prim.Native.Nat.{ℕ, _+_, _-_, _≤_, _<_}
 use native.Mathlib.Omega.{arith}
 use borrow.Author.Needs.{needs}
@@ -12,14 +13,12 @@ use Rattle.account.specs.Locks.{unitsAllowed, unlockChange, unlockVerdict}
 use Rattle.account.specs.Rows.{holding}
 use Rattle.account.specs.Sound.{Sound}
 use Rattle.account.specs.Totals.{spareUnits}
-use Rattle.account.specs.Verdicts.{_else_then_}
 use Rattle.account.specs.declared.account.Account.{Account}
 use Rattle.account.specs.declared.judged.Change.{Change}
 use Rattle.account.specs.declared.judged.Decision.{Decision}
 use Rattle.account.specs.declared.judged.Decision.the-variants as Decision·of
-use Rattle.account.specs.declared.judged.Verdict.the-variants.{Accepted}
 use Rattle.account.specs.declared.tables.Tables.{Tables}
-use Rattle.account.proofs.Decided.{TwoChecks, first-fails, second-fails, both-pass}
+use Rattle.account.proofs.Decided.{Checked, changes, fails, goes-on, refuses}
 use Rattle.totals.specs.Gathered.{heldIn, workingIn}
 use Rattle.totals.specs.declared.held.Held.{Held}
 use Rattle.totals.specs.declared.working.Working.{Working}
@@ -28,12 +27,9 @@ use Rattle.transfers.proofs.units.unlock.Statement.{statement}
 use Rattle.transfers.proofs.units.unlock.Tie as tie
 
 module _ (t : Tables) (a : Account) (u units : ℕ) where
-  are : unlockVerdict t (spareUnits t a u) u units ≡ (unitsAllowed t u units else OutOfRange then leb units (spareUnits t a u .0) else SpareTooFew then Accepted)
+  asked : Checked (unlockVerdict t (spareUnits t a u) u units) ((unitsAllowed t u units, OutOfRange) ∷ (leb units (spareUnits t a u .0), SpareTooFew) ∷ [])
   unfolding unlockVerdict
-  are = refl
-
-  abbrev two : TwoChecks (unlockVerdict t (spareUnits t a u) u units)
-  two = record { first = unitsAllowed t u units; second = leb units (spareUnits t a u .0); why = OutOfRange; other = SpareTooFew; are = are }
+  asked = record { are = refl }
 
   abbrev change : Change
   change = unlockChange a u units
@@ -54,10 +50,10 @@ module _ (t : Tables) (a : Account) (u units : ℕ) where
     within sound = rw (held, working) (sound .units u (listed t a u units sound (sym is ∙ passed)))
 
     refused : spare < units → Decision·of.Refused SpareTooFew ≡ decision
-    refused less = second-fails _ change two first is false (sym (ap (leb units) (sym is-spare) ∙ lt-leb units spare less)) passed refl
+    refused less = refuses _ change _ (fails (goes-on asked is passed) {found = false} (sym (ap (leb units) (sym is-spare) ∙ lt-leb units spare less)) refl)
 
     accepted : units ≤ spare → (made : Change) → made ≡ change → Decision·of.Changes made ≡ decision
-    accepted reach = both-pass _ change two first is true (sym (ap (leb units) (sym is-spare) ∙ le-leb units spare reach)) passed refl
+    accepted reach = changes _ change (goes-on (goes-on asked is passed) {found = true} (sym (ap (leb units) (sym is-spare) ∙ le-leb units spare reach)) refl .are)
 
 -- what the function knows behind its loops
 module _ (c : tie.After-working-in) where
@@ -98,7 +94,7 @@ unlock-spec =
     (λ c κs. search needs)
     (λ c.
     let args = c .before .before .args in
-    first-fails _ _ (two (args .tables) (args .t2) (args .underlying) (args .units)) _ (c .before .allowed .ensures) (not-true _ (c .if1 .taken)))
+    refuses _ _ _ (fails (asked (args .tables) (args .t2) (args .underlying) (args .units)) (c .before .allowed .ensures) (not-true _ (c .if1 .taken))))
     (λ c. search needs)
     (λ c.
     let start = c .before .before in

@@ -1,0 +1,15 @@
+-- A payout is paid or dropped where something waits: nothing waits where the amount is zero, which is the definition's test.
+use mathlib.Core.Path.{_≡_, refl}
+use Prim.Native.Nat.{ℕ}
+use borrow.Author.Tests.{eq-eqb, ne-eqb}
+use Rattle.terms.specs.declared.refusal.Refusal.the-variants.{NothingWaiting}
+use Rattle.account.specs.Transfers.{payoutVerdict}
+use Rattle.account.specs.declared.judged.Verdict.the-variants.{Accepted, Refused}
+
+pub nothing-waits : (waiting : ℕ) → waiting ≡ 0 → payoutVerdict waiting ≡ Refused NothingWaiting
+unfolding payoutVerdict
+nothing-waits waiting e = rw (eq-eqb waiting 0 e)
+
+pub something-waits : (waiting : ℕ) → (waiting ≡ 0 → ⊥) → payoutVerdict waiting ≡ Accepted
+unfolding payoutVerdict
+something-waits waiting some = rw (ne-eqb waiting 0 some)
