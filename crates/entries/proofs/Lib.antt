@@ -1,4 +1,5 @@
 -- Laws about numbers and entries in records, which the proofs of reading and of writing and the theorems cite.
+pub mod DayEnds
 pub mod Halves
 pub mod Limits
 pub mod LittleEndian

@@ -3,36 +3,16 @@ use mathlib.Core.Bool.{cond}
 use Rattle.entries.specs.Entries.{kindOf}
 use Rattle.entries.specs.Table.{isDayEnd}
 use Rattle.entries.specs.declared.entry.Entry.{Entry}
-use Rattle.entries.specs.declared.entry.Entry.the-variants.{Deposit, Withdraw, Lock, Unlock, Order, Fill, Cancel, DayEnd, Underlying, Contract, Opening}
 use Rattle.entries.specs.declared.entry.Figures.{Figures}
-use Rattle.account.specs.Changes.{applied, decided, ending, ofSheet}
-use Rattle.account.specs.Fills.{cancelChange, fillChange, named}
-use Rattle.account.specs.Locks.{lockChange, unlockChange}
-use Rattle.account.specs.Orders.{factsOf, orderChange}
-use Rattle.account.specs.Steps.{refusalOf}
-use Rattle.account.specs.Transfers.{depositChange, withdrawChange}
+use Rattle.account.specs.Changes.{applied, decided, ending}
+use Rattle.account.specs.Steps.{changeOf, refusalOf}
 use Rattle.account.specs.declared.account.Account.{Account}
-use Rattle.account.specs.declared.judged.Change.{Change}
 use Rattle.account.specs.declared.judged.Decision.{Decision}
 use Rattle.account.specs.declared.judged.Decision.the-variants as Decision·of
 use Rattle.account.specs.declared.judged.Outcome.{Outcome}
 use Rattle.account.specs.declared.judged.Verdict.the-variants.{Accepted, Refused}
 use Rattle.account.specs.declared.tables.Tables.{Tables}
 use Rattle.day_end.specs.Ended.{FiguresTaken, endedOn}
-
--- what an entry within the day changes; a day end changes more than one row, and set-up has ended
-abbrev pub changeOf : Tables → Account → Entry → Change
-changeOf t a (Deposit amount) = depositChange (a .sheet) (a .last) amount
-changeOf t a (Withdraw amount) = withdrawChange (a .sheet) (a .last) amount
-changeOf t a (Lock u units) = lockChange a u units
-changeOf t a (Unlock u units) = unlockChange a u units
-changeOf t a (Order o) = orderChange (factsOf t a o) o
-changeOf t a (Fill fill) = fillChange (named t a (fill .number)) fill
-changeOf t a (Cancel number) = cancelChange (named t a number)
-changeOf t a (DayEnd n m) = ofSheet (a .sheet) (a .last)
-changeOf t a (Underlying row) = ofSheet (a .sheet) (a .last)
-changeOf t a (Contract row) = ofSheet (a .sheet) (a .last)
-changeOf t a (Opening cash) = ofSheet (a .sheet) (a .last)
 
 -- the verdict on the entry, with what it changes or with the end of the day
 unfoldable pub decisionOn : Tables → Account → Entry → Figures → Decision

@@ -12,7 +12,9 @@ use fills::fill;
 use orders::order;
 use terms::Refusal;
 use transfers::deposit;
+use transfers::drop;
 use transfers::lock;
+use transfers::pay;
 use transfers::unlock;
 use transfers::withdraw;
 ghost use mathlib.Core.Path.{_≡_};
@@ -40,7 +42,7 @@ pub fn decide(tables: Tables, account: Account, entry: Entry, figures: Figures) 
         }
         Entry::Withdraw(amount) => {
             let sheet = account.sheet;
-            withdraw(sheet, account.last, amount)
+            withdraw(sheet, account.waiting, account.last, amount)
         }
         Entry::Lock { underlying, units } => lock(tables, account, underlying, units),
         Entry::Unlock { underlying, units } => unlock(tables, account, underlying, units),
@@ -48,6 +50,14 @@ pub fn decide(tables: Tables, account: Account, entry: Entry, figures: Figures) 
         Entry::Fill(asked) => fill(tables, account, asked),
         Entry::Cancel { number } => cancel(tables, account, number),
         Entry::DayEnd { n, m } => day_end::decide(tables, n, m, figures),
+        Entry::Pay => {
+            let sheet = account.sheet;
+            pay(sheet, account.waiting, account.last)
+        }
+        Entry::Drop => {
+            let sheet = account.sheet;
+            drop(sheet, account.waiting, account.last)
+        }
         Entry::Underlying(_) => Decision::Refused(Refusal::OutOfPlace),
         Entry::Contract(_) => Decision::Refused(Refusal::OutOfPlace),
         Entry::Opening(_) => Decision::Refused(Refusal::OutOfPlace),
