@@ -1,4 +1,4 @@
-//! Telling books, each with the lines that document 01 or plain arithmetic gives for it. None of the lines comes out of a run.
+//! Telling books, each with the lines that the documents or plain arithmetic give for it. None of the lines comes out of a run.
 
 mod endings;
 mod full;
