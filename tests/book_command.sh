@@ -35,7 +35,7 @@ refuses() {
     [ "$(cat "$place/err")" = "$words" ] || fail "not said: $words"
 }
 
-for name in day.book refusals.book; do
+for name in day.book refusals.book payout.book; do
     prints "$name" "examples/$name"
     prints "$name" <"examples/$name"
 done

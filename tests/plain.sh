@@ -5,4 +5,4 @@ said=$(sh tests/cargo.sh test 2>&1) || {
     printf '%s\n' "$said"
     exit 1
 }
-echo "the examples' answers are document 01's"
+echo "the examples' answers are the documents'"

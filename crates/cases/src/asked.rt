@@ -32,6 +32,8 @@ pub fn entry(l: &[u8]) -> Entry {
             n: hex4(l, 3),
             m: hex4(l, 4),
         },
+        9 => Entry::Pay,
+        10 => Entry::Drop,
         16 => underlying(l),
         17 => contract(l),
         _ => Entry::Opening(hex(l, 3)),

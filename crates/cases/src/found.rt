@@ -26,6 +26,8 @@ fn fields(entry: Entry, figures: Figures) {
         Entry::Fill(entry) => fill(entry),
         Entry::Cancel { number } => hex8(number),
         Entry::DayEnd { n, m } => day_end(n, m, figures),
+        Entry::Pay => (),
+        Entry::Drop => (),
         Entry::Underlying(row) => underlying(row),
         Entry::Contract(row) => contract(row),
         Entry::Opening(cash) => hex16(cash),

@@ -16,7 +16,7 @@ use terms::Right;
 // A line's first letter says what it asks; its fields are those of the record.
 pub fn entry(l: &[u8]) -> Entry {
     match letter(l, 0) {
-        b'd' => Entry::Deposit(field(l, 1)),
+        b'd' => deposit_or_drop(l),
         b'w' => Entry::Withdraw(field(l, 1)),
         b'l' => Entry::Lock {
             underlying: half(l, 1),
@@ -33,7 +33,17 @@ pub fn entry(l: &[u8]) -> Entry {
             n: half(l, 1),
             m: half(l, 2),
         },
+        b'p' => Entry::Pay,
         _ => set_up(l),
+    }
+}
+
+// These two words have the same first letter.
+fn deposit_or_drop(l: &[u8]) -> Entry {
+    if letter(l, 1) == b'r' {
+        Entry::Drop
+    } else {
+        Entry::Deposit(field(l, 1))
     }
 }
 

@@ -49,7 +49,7 @@ fn line(state: Outcome, l: &[u8]) -> Outcome
     let verdict = after.verdict;
     let account = after.account;
     let sheet = account.sheet;
-    show(verdict, sheet, account.last);
+    show(verdict, sheet, account.last, account.waiting);
     rows(account);
     text(b"\n");
     after

@@ -1,4 +1,5 @@
-// What came out: the verdict, the money, the last accepted number, and every row of the account that is not empty.
+// What came out: the verdict, the money, the last accepted number, what waits to be paid out, and every row of the account that is not
+// empty.
 use account::Account;
 use account::Holding;
 use account::Resting;
@@ -18,7 +19,7 @@ const ORDERS: usize = HOLDINGS + terms::UNDERLYINGS;
 
 const ROWS: usize = ORDERS + terms::PLACES;
 
-pub fn show(verdict: Verdict, sheet: Sheet, last: u32)
+pub fn show(verdict: Verdict, sheet: Sheet, last: u32, waiting: u64)
     requires { ⌜ SoundSheet sheet ⌝ }
 {
     text(b" =");
@@ -29,6 +30,10 @@ pub fn show(verdict: Verdict, sheet: Sheet, last: u32)
     number(sheet.holds);
     number(sheet.margin);
     number(last as u64);
+    if waiting != 0 {
+        text(b" w");
+        number(waiting);
+    }
 }
 
 pub fn rows(account: Account) {

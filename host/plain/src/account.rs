@@ -32,13 +32,16 @@ pub struct Holding {
     pub bought: i64,
 }
 
-/// No sum stands here but cash and covered premium: holds, margin and available are worked out when asked for.
+/// No sum stands here but cash, covered premium and the amount that waits to be paid out: holds, margin and available are worked out
+/// when asked for.
 #[derive(Clone, Debug, PartialEq, Eq)]
 pub struct Account {
     pub positions: Vec<Position>,
     pub holdings: Vec<Holding>,
     pub cash: i64,
     pub covered_premium: i64,
+    /// Asked for, and neither paid nor dropped yet.
+    pub waiting: Option<i64>,
     pub orders: [Option<Order>; PLACES],
     pub last: u32,
 }
@@ -85,6 +88,7 @@ impl Desk {
                 holdings: vec![Holding::default(); tables.underlyings.len()],
                 cash: cash as i64,
                 covered_premium: 0,
+                waiting: None,
                 orders: [None; PLACES],
                 last: 0,
             },
@@ -115,8 +119,10 @@ impl Desk {
         i64::from(order.quantity) * self.hold_of_one(order)
     }
 
+    /// What resting orders hold, and what waits to be paid out.
     pub fn holds(&self) -> i64 {
-        self.account.resting().map(|order| self.hold(order)).sum()
+        let orders: i64 = self.account.resting().map(|order| self.hold(order)).sum();
+        orders + self.account.waiting.unwrap_or(0)
     }
 
     pub fn margin(&self) -> i64 {

@@ -7,6 +7,7 @@ pub enum Entry {
     Deposit {
         amount: u64,
     },
+    /// Asks for a pay-out: the amount waits until it is paid or dropped.
     Withdraw {
         amount: u64,
     },
@@ -28,6 +29,10 @@ pub enum Entry {
         settlements: Vec<u32>,
         closes: Vec<u32>,
     },
+    /// What waits is paid out.
+    Pay,
+    /// What waits is asked for no more.
+    Drop,
     Underlying(Underlying),
     Contract(Contract),
     Opening {

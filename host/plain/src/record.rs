@@ -31,6 +31,7 @@ fn length_fits(kind: u16, length: usize) -> Result<(), u8> {
         6 | 16 => length == 16,
         7 => length == 8,
         8 => length % 4 == 0 && (day_end_length(1, 1)..=day_end_length(64, 8)).contains(&length),
+        9 | 10 => length == 4,
         _ => return Err(2),
     };
     require(fits, 3)
@@ -101,6 +102,8 @@ fn entry(kind: u16, mut f: Fields) -> Option<Entry> {
                 closes: f.fours(m),
             }
         }
+        9 => Entry::Pay,
+        10 => Entry::Drop,
         16 => Entry::Underlying(underlying(f)?),
         17 => Entry::Contract(contract(f)?),
         _ => Entry::Opening { cash: f.eight() },
@@ -213,6 +216,8 @@ pub fn fields(entry: &Entry) -> (u16, Vec<Field>) {
             settlements,
             closes,
         } => (8, day_end_fields(settlements, closes)),
+        Entry::Pay => (9, Vec::new()),
+        Entry::Drop => (10, Vec::new()),
         Entry::Underlying(u) => (16, underlying_fields(u)),
         Entry::Contract(c) => (17, contract_fields(c)),
         Entry::Opening { cash } => (18, vec![eight(*cash)]),

@@ -21,6 +21,8 @@ impl Desk {
                 settlements,
                 closes,
             } => self.day_end(settlements, closes),
+            Entry::Pay => self.pay(),
+            Entry::Drop => self.waited().map(|_| ()),
             Entry::Underlying(_) | Entry::Contract(_) | Entry::Opening { .. } => Err(5),
         }
     }
@@ -32,10 +34,24 @@ impl Desk {
         Ok(())
     }
 
+    /// The bank takes minutes to pay: cash stays, and the amount is held until then, so that no order can use it.
     fn withdraw(&mut self, amount: u64) -> Result<(), u8> {
         require(within(amount, TRANSFER), 4)?;
+        require(self.account.waiting.is_none(), 20)?;
         require(amount as i64 <= self.available(), 14)?;
-        self.account.cash -= amount as i64;
+        self.account.waiting = Some(amount as i64);
+        Ok(())
+    }
+
+    /// What waits, which is held no more from here on.
+    fn waited(&mut self) -> Result<i64, u8> {
+        self.account.waiting.take().ok_or(19)
+    }
+
+    fn pay(&mut self) -> Result<(), u8> {
+        // What was accepted was available, a fill pays at most its share of the hold, and a day end takes no cash.
+        assert!(self.holds() <= self.account.cash, "holds never pass cash");
+        self.account.cash -= self.waited()?;
         Ok(())
     }
 
@@ -162,7 +178,7 @@ impl Desk {
         Ok(())
     }
 
-    /// In the order of "Day end"; the last accepted number is kept.
+    /// In the order of "Day end"; the last accepted number is kept, and so is what waits to be paid out.
     fn day_end(&mut self, settlements: &[u32], closes: &[u32]) -> Result<(), u8> {
         require(settlements.len() == self.tables.contracts.len(), 4)?;
         require(closes.len() == self.tables.underlyings.len(), 4)?;

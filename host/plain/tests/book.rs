@@ -41,12 +41,15 @@ fn a_cut_record_ends_the_reading() {
 
 #[test]
 fn bytes_past_the_most_are_not_read() {
-    let cancel = written(&[Entry::Cancel { number: 1 }]).unwrap();
-    let cancels = cancel.repeat(MOST_READ / cancel.len() + 1);
-    let last = "8192 5 0\n";
-    assert!(printed(&cancels).ends_with(last));
-    assert!(printed(&cancels[..MOST_READ]).ends_with(last));
-    assert!(printed(&cancels[..MOST_READ - 1]).ends_with("8192 1 0\n"));
+    for (entry, most) in [(Entry::Cancel { number: 1 }, 8_192), (Entry::Pay, 16_384)] {
+        let record = written(slice::from_ref(&entry)).unwrap();
+        let records = record.repeat(most + 1);
+        let last = format!("{most} 5 0\n");
+        assert!(printed(&records).ends_with(&last));
+        assert!(printed(&records[..MOST_READ]).ends_with(&last));
+        let cut = format!("{most} 1 0\n");
+        assert!(printed(&records[..MOST_READ - 1]).ends_with(&cut));
+    }
 }
 
 /// As many places as there are records, fewer, and more.

@@ -39,7 +39,7 @@ fn a_list_is_a_book_behind_its_opening() {
 #[test]
 fn a_record_that_cannot_be_read_ends_it() {
     let mut list = written(&worked::entries()[3..5]).unwrap();
-    list.extend([8, 0, 9, 0, 8, 0, 7, 0, 1, 0, 0, 0]);
+    list.extend([8, 0, 11, 0, 8, 0, 7, 0, 1, 0, 0, 0]);
     let run = run_list(&tables(1, 1), 600_000, &list, 9).unwrap();
     assert_eq!(run.answers, [(0, 100_000), (0, 152_000), (2, 152_000)]);
     assert_eq!(run.place, 36);

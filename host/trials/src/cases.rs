@@ -159,6 +159,8 @@ fn asked(words: &Words) -> Option<Entry> {
             number: words.hex(3)?,
         },
         8 => day_end(words.hex(3)?, words.hex(4)?, |i| words.hex(5 + i)),
+        9 => Entry::Pay,
+        10 => Entry::Drop,
         16 => Entry::Underlying(underlying(words)?),
         17 => Entry::Contract(contract(words)?),
         18 => Entry::Opening {

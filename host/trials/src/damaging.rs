@@ -43,7 +43,7 @@ fn set(record: &mut [u8], at: usize, value: u16) {
 fn wrong_length(chance: &mut Chance, record: &mut [u8]) {
     let own = record.len() as u16;
     let near = [own.saturating_sub(1), own + 1, own + 4, own + 256];
-    let any = [0, 3, 8, 10, 12, 16, 20, 296, 300, 65_535];
+    let any = [0, 3, 4, 8, 10, 12, 16, 20, 296, 300, 65_535];
     let length = if chance.percent(50) {
         chance.pick(&near)
     } else {
@@ -54,8 +54,8 @@ fn wrong_length(chance: &mut Chance, record: &mut [u8]) {
 
 /// One that is not in the table, or another than the record's own, of the same length or not.
 fn wrong_kind(chance: &mut Chance, record: &mut [u8]) {
-    let unlisted = chance.pick(&[0, 9, 15, 19, 255, 256, 263, 65_535]);
-    let listed = chance.pick(&[1, 2, 3, 4, 5, 6, 7, 8, 16, 17, 18]);
+    let unlisted = chance.pick(&[0, 11, 15, 19, 255, 256, 263, 65_535]);
+    let listed = chance.pick(&[1, 2, 3, 4, 5, 6, 7, 8, 9, 10, 16, 17, 18]);
     let kind = chance.pick(&[unlisted, listed]);
     set(record, 2, kind);
 }

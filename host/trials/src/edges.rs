@@ -74,6 +74,8 @@ pub(crate) fn entry(words: &Words) -> Option<Entry> {
             number: words.number(1)?,
         },
         "end" => day_end(words.number(1)?, words.number(2)?, |i| words.number(3 + i)),
+        "pay" => Entry::Pay,
+        "drop" => Entry::Drop,
         "record" => set_up(words.number(1)?)?,
         _ => return None,
     })
@@ -89,7 +91,7 @@ fn set_up(kind: u16) -> Option<Entry> {
     })
 }
 
-/// The verdict, the money, the last number; then each contract, underlying and place that is not empty.
+/// The verdict, the money, the last number; then what waits to be paid out, and each contract, underlying and place that is not empty.
 fn shown(verdict: u8, desk: &Desk) -> String {
     let account = &desk.account;
     let (holds, margin) = (desk.holds(), desk.margin());
@@ -102,6 +104,9 @@ fn shown(verdict: u8, desk: &Desk) -> String {
 }
 
 fn show_rows(text: &mut String, desk: &Desk) -> std::fmt::Result {
+    if let Some(amount) = desk.account.waiting {
+        write!(text, " w {amount}")?;
+    }
     for (contract, held) in desk.account.positions.iter().enumerate() {
         let (long, short, covered) = (held.long, held.short, held.covered);
         if (long, short, covered) != (0, 0, 0) {

@@ -7,10 +7,11 @@ use plain::terms::{Class, Contract, Kind, Right, Underlying};
 use plain::worked;
 
 /// Each by its file's name.
-pub fn books() -> [(&'static str, Vec<u8>); 3] {
+pub fn books() -> [(&'static str, Vec<u8>); 4] {
     [
         ("day.book", day()),
         ("refusals.book", refusals()),
+        ("payout.book", bytes(&asked_and_paid())),
         ("full.book", full().bytes),
     ]
 }
@@ -59,5 +60,36 @@ fn refused_now_and_then() -> Vec<Entry> {
         Entry::Deposit { amount: 1_000_000 },
         Entry::order(2, 0, Kind::BuyClose, 1, 1_000),
         Entry::Cancel { number: 2 },
+    ]
+}
+
+/// What waits is held over an order, a day end and a margin that leaps, until it is paid; the next one is dropped.
+fn asked_and_paid() -> Vec<Entry> {
+    let ask = |amount| Entry::Withdraw { amount };
+    let day_end = |settlement| Entry::DayEnd {
+        settlements: vec![settlement],
+        closes: vec![25_000],
+    };
+    vec![
+        Entry::Underlying(Underlying::new(Class::Fund, 25_000, [20, 50, 100])),
+        Entry::Contract(Contract::new(0, Right::Call, [26_000, 10_000, 500])),
+        Entry::Pay,
+        Entry::Opening { cash: 600_000 },
+        Entry::Pay,
+        ask(100_000),
+        Entry::order(1, 0, Kind::SellOpen, 2, 500),
+        ask(1),
+        ask(0),
+        Entry::fill(1, 1, 520),
+        Entry::Cancel { number: 1 },
+        day_end(4_000),
+        Entry::Pay,
+        ask(1),
+        day_end(500),
+        ask(302_001),
+        ask(302_000),
+        Entry::order(2, 0, Kind::BuyClose, 1, 1),
+        Entry::Drop,
+        Entry::Drop,
     ]
 }

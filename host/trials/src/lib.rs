@@ -9,6 +9,7 @@ pub mod edges;
 pub mod examples;
 pub mod making;
 pub mod ordering;
+pub mod paying;
 pub mod runs;
 pub mod setting_up;
 pub mod tables;

@@ -69,18 +69,18 @@ impl Maker {
         if desk.available() <= 0 && self.chance.percent(10) {
             return format!("deposit {}", self.deposit(desk));
         }
-        // open, record, day end, deposit, withdraw, lock, unlock, cancel, fill, order
+        // open, record, day end, deposit, pay-out, lock, unlock, cancel, fill, order
         let weights = match self.mood {
-            Mood::Mixed => [4, 8, 25, 40, 45, 45, 45, 60, 290, 440],
-            Mood::Brisk => [3, 8, 45, 40, 25, 45, 25, 30, 420, 360],
-            Mood::Crowd => [2, 8, 2, 20, 10, 10, 5, 60, 40, 800],
+            Mood::Mixed => [4, 8, 25, 40, 75, 45, 45, 60, 290, 440],
+            Mood::Brisk => [3, 8, 45, 40, 45, 45, 25, 30, 420, 360],
+            Mood::Crowd => [2, 8, 2, 20, 20, 10, 5, 60, 40, 800],
         };
         match self.chance.weighted(&weights) {
             0 => self.opening(),
             1 => format!("record {}", self.chance.between(16, 18)),
             2 => self.day_end(desk),
             3 => format!("deposit {}", self.deposit(desk)),
-            4 => format!("withdraw {}", self.withdrawal(desk)),
+            4 => self.payout(desk),
             5 => self.lock(desk),
             6 => self.unlock(desk),
             7 => self.cancel(desk),
@@ -108,41 +108,6 @@ impl Maker {
         }
         // A refused opening leaves other tables than it asked for.
         self.chance.pick(&self.focus).min(count as u16 - 1)
-    }
-
-    fn deposit(&mut self, desk: &Desk) -> i64 {
-        let missing = -desk.available();
-        if 0 < missing && self.chance.percent(60) {
-            let amount = missing + self.chance.pick(&[-5, -1, 0, 0, 1, 5_000_000]);
-            return amount.clamp(1, MOST_TRANSFER);
-        }
-        let room = desk.account.money_room();
-        match self.chance.weighted(&[10, 10, 30, 20, 2, 2, 3]) {
-            0 if room <= MOST_TRANSFER => room,
-            1 if room <= MOST_TRANSFER => room + 1,
-            0..=2 => self.chance.between(1, 3_000_000),
-            3 => self.chance.between(1, MOST_TRANSFER),
-            4 => 0,
-            5 => MOST_TRANSFER,
-            _ => self
-                .chance
-                .pick(&[MOST_TRANSFER + 1, 999_999_999_999_999_999]),
-        }
-    }
-
-    fn withdrawal(&mut self, desk: &Desk) -> i64 {
-        let available = desk.available();
-        match self.chance.weighted(&[10, 15, 60, 5, 2, 2, 3]) {
-            0 => available.max(1),
-            1 => (available + 1).max(1),
-            2 => self.chance.between(1, available / 3),
-            3 => 1,
-            4 => 0,
-            5 => MOST_TRANSFER,
-            _ => self
-                .chance
-                .pick(&[MOST_TRANSFER + 1, 999_999_999_999_999_999]),
-        }
     }
 
     /// An underlying, now and then one that is not in the tables.

@@ -172,7 +172,8 @@ impl Maker {
         field(wish)
     }
 
-    /// A transfer goes before the order, so that its hold is all that is available, or one fen more.
+    /// A transfer goes before the order, so that its hold is all that is available, or one fen more. What waits already is paid first,
+    /// which leaves as much available.
     fn paid_for(&mut self, desk: &Desk, order: Order) -> String {
         let gap = desk.available() - desk.hold(&order);
         let off = self.chance.between(0, 1);
@@ -181,6 +182,10 @@ impl Maker {
         } else {
             format!("deposit {}", (-gap - off).clamp(1, MOST_TRANSFER))
         };
+        if 0 < gap && desk.account.waiting.is_some() {
+            self.ahead.extend([transfer, line(&order)]);
+            return "pay".to_string();
+        }
         self.ahead.push_back(line(&order));
         transfer
     }

@@ -1,8 +1,9 @@
-//! Telling books, each with the lines that document 01 or plain arithmetic gives for it. None of the lines comes out of a run.
+//! Telling books, each with the lines that the documents or plain arithmetic give for it. None of the lines comes out of a run.
 
 mod endings;
 mod full;
 mod money;
+mod payouts;
 mod set_up;
 mod sizes;
 
@@ -26,6 +27,7 @@ pub fn books() -> Vec<Telling> {
     books.extend(sizes::books());
     books.extend(set_up::books());
     books.extend(money::books());
+    books.extend(payouts::books());
     books.extend(endings::books());
     books.push(full());
     books
@@ -72,6 +74,11 @@ fn worked_rows() -> Vec<Row> {
     };
     let entries = worked::entries().into_iter();
     entries.zip(worked::LINES.lines()).map(row).collect()
+}
+
+/// The worked book up to its opening with 600,000.
+fn opened() -> Vec<Row> {
+    worked_rows().into_iter().take(3).collect()
 }
 
 /// At every byte, from none to all: a record that has lost its end is 1, at the sum before it.

@@ -96,7 +96,7 @@ fn shown(line: Option<&&str>) -> String {
 
 /// How often each verdict was met, acceptance at 0.
 #[derive(Default)]
-pub struct Verdicts([u64; 19]);
+pub struct Verdicts([u64; 21]);
 
 impl Verdicts {
     pub fn meet(&mut self, verdict: usize) {

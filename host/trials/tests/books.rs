@@ -29,7 +29,7 @@ fn random_books_reach_every_refusal() {
         met.extend(verdicts(&printed(&bytes)));
     }
     // 17 is for writing, and 18 can't be reached: what a buy pays was held for it.
-    assert!(met.into_iter().eq(0..=16));
+    assert!(met.into_iter().eq((0..=16).chain(19..=20)));
     assert!(sizes.range(..1_000).count() > 50);
     assert!(sizes.range(MOST_READ + 1..).count() > 5);
 }
@@ -61,12 +61,12 @@ fn the_gate_has_the_worked_book() {
     assert_eq!(example("../crates/book/stdout"), worked::LINES.as_bytes());
 }
 
-/// The lines in the two tables of the examples' page are those that are printed.
+/// The lines in the tables of the examples' page are those that are printed.
 #[test]
 fn examples_are_as_told() {
     let page = String::from_utf8(example("README.md")).unwrap();
     let sections: Vec<&str> = page.split("\n## ").skip(1).collect();
-    assert_eq!(sections.len(), 2);
+    assert_eq!(sections.len(), 3);
     for section in sections {
         let (name, table) = section.split_once('\n').unwrap();
         let rows = table.lines().filter_map(|row| row.strip_suffix("` |"));

@@ -1,7 +1,7 @@
 //! Sums below zero, the last order number there is, and all places for orders taken.
 
 use super::{call, call_a, cancel, day_end, deposit, fund, opening, stock, withdraw};
-use super::{told, worked_rows, Row, Telling};
+use super::{opened, told, Row, Telling};
 use plain::entry::Entry;
 use plain::terms::{Class, Kind, Underlying};
 
@@ -63,8 +63,7 @@ fn far_below_zero() -> Telling {
 /// Nothing is above it, also once it is gone.
 fn last_number() -> Telling {
     let buy = |number| Entry::order(number, 0, Kind::BuyOpen, 1, 1);
-    let mut rows = worked_rows();
-    rows.truncate(3);
+    let mut rows = opened();
     rows.extend([
         (buy(0), 6, 600_000),
         (buy(u32::MAX), 0, 599_900),

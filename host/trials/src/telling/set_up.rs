@@ -1,7 +1,7 @@
 //! Records in and out of their place, the numbers that rows take, full tables, openings.
 
 use super::{call, call_a, cancel, day_end, deposit, fund, lock, opening, put, stock, withdraw};
-use super::{told, worked_rows, Row, Telling};
+use super::{opened, told, worked_rows, Row, Telling};
 use plain::entry::Entry;
 use plain::terms::{Class, Contract, Kind, Right, Underlying, OPENING_CASH};
 
@@ -29,7 +29,7 @@ pub fn books() -> Vec<Telling> {
     books
 }
 
-/// Kinds 1 to 8, each with values in range and with values that would be 4.
+/// Kinds 1 to 10, each with values in range and, where it has fields, with values that would be 4.
 fn days() -> Vec<Entry> {
     let unlock = |underlying, units| Entry::Unlock { underlying, units };
     vec![
@@ -48,6 +48,8 @@ fn days() -> Vec<Entry> {
         cancel(1),
         day_end(&[300], &[25_500]),
         day_end(&[u32::MAX; 64], &[0; 8]),
+        Entry::Pay,
+        Entry::Drop,
     ]
 }
 
@@ -200,8 +202,7 @@ fn opening_with_no_contract() -> Telling {
 }
 
 fn second_opening() -> Telling {
-    let mut rows = worked_rows();
-    rows.truncate(3);
+    let mut rows = opened();
     rows.extend([
         (opening(700_000), 5, 600_000),
         (opening(u64::MAX), 5, 600_000),
@@ -220,6 +221,8 @@ fn opened_with_the_most(most: u64) -> Telling {
             (opening(most), 0, available),
             (deposit(1), 15, available),
             (withdraw(1), 0, available - 1),
+            (deposit(1), 15, available - 1),
+            (Entry::Pay, 0, available - 1),
             (deposit(1), 0, available),
         ],
     )

@@ -1,8 +1,10 @@
 //! Books of next to nothing, and books at the 65,536th byte.
 
-use super::{cancel, deposit, lock, told, told_with, worked_rows, Row, Telling};
+use super::{cancel, deposit, lock, opened, told, told_with, Row, Telling};
+use plain::entry::Entry;
 use plain::program::MOST_READ;
 use plain::record::written;
+use std::slice;
 
 pub fn books() -> Vec<Telling> {
     let mut books = vec![told("no input", &[])];
@@ -11,38 +13,53 @@ pub fn books() -> Vec<Telling> {
         books.push(told_with(&name, &[], &[255; 3][..size], &[(1, 0)]));
     }
     books.extend([
-        told("8,192 cancels", &cancels(MOST_READ)),
-        opened_to_the_end(&[], "a set-up and cancels up to the last byte"),
-        opened_to_the_end(&[255], "a set-up, cancels, and one byte more"),
-        opened_to_the_end(&behind(), "a set-up, cancels, and a deposit not read"),
+        told("8,192 cancels", &early(cancel(1), MOST_READ)),
+        told("16,384 pay-outs", &early(Entry::Pay, MOST_READ)),
     ]);
-    books.extend([8, 6, 4, 2].map(cut_within));
+    let fillings = [
+        ("cancels", (cancel(1), 7, 600_000)),
+        ("pay-outs", (Entry::Pay, 19, 600_000)),
+    ];
+    for (name, row) in fillings {
+        for (end, more) in [
+            ("up to the last byte", Vec::new()),
+            ("and one byte more", vec![255]),
+            ("and a deposit not read", record(&deposit(1))),
+            ("and one more, not read", record(&row.0)),
+        ] {
+            let name = format!("a set-up, {name}, {end}");
+            books.push(opened_to_the_end(&name, &row, &more));
+        }
+    }
+    books.extend([8, 6, 4, 2].map(|read| cut_within("a deposit", &deposit(1), read)));
+    books.push(cut_within("a pay-out", &Entry::Pay, 2));
     books
 }
 
-/// Before the opening a cancel is out of its place.
-fn cancels(size: usize) -> Vec<Row> {
-    vec![(cancel(1), 5, 0); size / 8]
+fn record(entry: &Entry) -> Vec<u8> {
+    written(slice::from_ref(entry)).expect("no day end")
 }
 
-fn behind() -> Vec<u8> {
-    written(&[deposit(1)]).expect("no day end")
+/// So many bytes of one entry, which is out of its place before the opening.
+fn early(entry: Entry, size: usize) -> Vec<Row> {
+    let count = size / record(&entry).len();
+    vec![(entry, 5, 0); count]
 }
 
-/// 48 bytes of set-up, and cancels of no order up to the 65,536th byte.
-fn opened_to_the_end(more: &[u8], name: &str) -> Telling {
-    let mut rows = worked_rows();
-    rows.truncate(3);
-    rows.resize(3 + (MOST_READ - 48) / 8, (cancel(1), 7, 600_000));
+/// 48 bytes of set-up, and entries of one kind up to the 65,536th byte.
+fn opened_to_the_end(name: &str, row: &Row, more: &[u8]) -> Telling {
+    let mut rows = opened();
+    let count = (MOST_READ - 48) / record(&row.0).len();
+    rows.resize(3 + count, row.clone());
     told_with(name, &rows, more, &[])
 }
 
-/// A deposit of which so many bytes, an even number below 12, are read. Locks of 10 bytes make up for what cancels do not fill.
-fn cut_within(read: usize) -> Telling {
+/// An entry of which so many bytes, an even number, are read. Locks of 10 bytes make up for what cancels do not fill.
+fn cut_within(name: &str, entry: &Entry, read: usize) -> Telling {
     let locks = (0..4).find(|locks| (MOST_READ - read - 10 * locks) % 8 == 0);
     let locks = locks.expect("up to three locks make any even number of bytes");
     let mut rows = vec![(lock(0, 1), 5, 0); locks];
-    rows.extend(cancels(MOST_READ - read - 10 * locks));
-    let name = format!("a deposit of which {read} bytes are read");
-    told_with(&name, &rows, &behind(), &[(1, 0)])
+    rows.extend(early(cancel(1), MOST_READ - read - 10 * locks));
+    let name = format!("{name} of which {read} bytes are read");
+    told_with(&name, &rows, &record(entry), &[(1, 0)])
 }
