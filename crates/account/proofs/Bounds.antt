@@ -30,6 +30,7 @@ use Rattle.account.specs.Totals.{isOf, countOf, countIn, overOrders, tot
 use Rattle.account.specs.declared.account.Account.{Account}
 use Rattle.account.specs.declared.account.Resting.{Resting}
 use Rattle.account.specs.declared.tables.Tables.{Tables}
+use Rattle.account.proofs.Held.{sound-held, waiting-held}
 use Rattle.account.proofs.Sums.{Σ-bound, Σ-term}
 
 -- the tests of an underlying's record, of a contract's, of an order and of a day end each have four parts
@@ -218,10 +219,8 @@ module _ {t : Tables} {a : Account} (sound : Sound t a) where
       λ c h. let there : c < t .n = omega (arith, h, l) in mul-le-mul (count-of Short c there) (le-of-lt (one-margin (sound .tables) c there)) in
       le-trans (Σ-bound k _ _ each) (mul-le-mul-right _ few)
 
-  -- what waits is among the holds, and cash reaches for all of them: so for it too, also where available is below zero
   pub payout-sound : SoundPayout (a .sheet) (a .waiting)
-  unfolding holdsIn
-  payout-sound = record { held = omega (arith, sound .holds); reach = sound .reach }
+  payout-sound = record { held = waiting-held (sound-held sound); reach = sound .reach }
 
   pub sheet-sound : SoundSheet (a .sheet)
   unfolding marginIn

@@ -25,14 +25,31 @@ use Rattle.account.specs.declared.account.Resting.{Resting}
 use Rattle.account.specs.declared.judged.Verdict.the-variants.{Accepted}
 use Rattle.account.specs.declared.tables.Tables.{Tables}
 use Rattle.account.proofs.Allowed.{underlying-known}
+use Rattle.account.proofs.Held.{Held, sound-held}
 use Rattle.account.proofs.Holdings.{each-holding}
 use Rattle.account.proofs.Kept.{count-kept, margin-kept, covered-kept}
 use Rattle.account.proofs.Passed.{went-on}
-use Rattle.account.proofs.Taken.{found, Takes, resting-order, resting-taken, closing-taken, reserved-taken, holds-taken, places-taken, distinct-taken}
+use Rattle.account.proofs.Taken.{found, Takes, held-taken, resting-order, resting-taken, closing-taken, reserved-taken, resting-after, distinct-taken}
 
 -- an order of which all is taken gives up its place
 all-taken : (r : Resting) → orderAfter r (r .left .0) ≡ free
 all-taken r = rw (eq-eqb (r .left .0) (r .left .0) refl)
+
+module _ (t : Tables) (a : Account) (number : ℕ) (held : Held t a) (there : placeOf a number < 32) where
+  pub cancel-takes : Takes t a (applied a (cancelChange (named t a number))) (placeOf a number) (order a (placeOf a number) .left .0)
+  unfolding applied cancelChange named
+  cancel-takes =
+      let r = order a (placeOf a number) in
+      record {
+        put = record { rows = held .rows; within = there; orders = ap (set (a .orders) (placeOf a number)) (sym (all-taken r)) };
+        waits = refl;
+        some = found a number there;
+        enough = le-refl (r .left .0);
+      }
+
+  pub cancel-held : Held t (applied a (cancelChange (named t a number)))
+  unfolding applied cancelChange named
+  cancel-held = held-taken cancel-takes held refl (omega (arith, held .reach))
 
 module _ (t : Tables) (a : Account) (number : ℕ) (s : Sound t a) (there : placeOf a number < 32) where
   abbrev after : Account
@@ -44,16 +61,11 @@ module _ (t : Tables) (a : Account) (number : ℕ) (s : Sound t a) (there : plac
   abbrev under : ℕ
   under = contract t (r .contract) .underlying
 
-  pub taken : Takes t a after (placeOf a number) (r .left .0)
-  unfolding applied cancelChange named
-  taken =
-      record {
-        sound = s;
-        put = record { rows = s .orderRows; within = there; orders = ap (set (a .orders) (placeOf a number)) (sym (all-taken r)) };
-        waits = refl;
-        some = found a number there;
-        enough = le-refl (r .left .0);
-      }
+  abbrev taken : Takes t a after (placeOf a number) (r .left .0)
+  taken = cancel-takes t a number (sound-held s) there
+
+  held-after : Held t after
+  held-after = cancel-held t a number (sound-held s) there
 
   positions-after : after .positions ≡ a .positions
   unfolding applied cancelChange named
@@ -66,7 +78,7 @@ module _ (t : Tables) (a : Account) (number : ℕ) (s : Sound t a) (there : plac
   position-after c = rw positions-after
 
   pub known : under < t .m
-  known = underlying-known t (asOrder r) (resting-order taken .allowed) (s .tables)
+  known = underlying-known t (asOrder r) (resting-order taken s .allowed) (s .tables)
 
   -- today's count of its underlying with the remainder taken off, where it is a buy open
   abbrev remaining : Holding
@@ -97,11 +109,11 @@ module _ (t : Tables) (a : Account) (number : ℕ) (s : Sound t a) (there : plac
       record {
         tables = s .tables;
         positionRows = length-set (a .positions) 64 noPosition ∙ s .positionRows;
-        orderRows = length-set (a .orders) (placeOf a number) free ∙ s .orderRows;
+        orderRows = held-after .rows;
         holdingRows = length-set (a .holdings) under _ ∙ s .holdingRows;
         ceiling = s .ceiling;
-        holds = omega (arith, s .holds, holds-taken taken);
-        reach = omega (arith, s .reach);
+        holds = held-after .holds;
+        reach = held-after .reach;
         waiting = s .waiting;
         margin = s .margin ∙ sym (margin-kept t a after positions-after);
         rights = λ u h. omega (arith, s .rights u h, count-after Long u, resting-taken taken (isKind BuyOpen) u);
@@ -112,13 +124,16 @@ module _ (t : Tables) (a : Account) (number : ℕ) (s : Sound t a) (there : plac
         units = λ u h. omega (arith, s .units u h, covered-kept t a after positions-after u, reserved-taken taken u, locked-after u);
         locked = λ u h. rw (locked-after u) (s .locked u h);
         calls = λ c put. rw (position-after c) (s .calls c put);
-        emptied = λ i h. places-taken taken i h .0;
-        resting = λ i h. places-taken taken i h .1;
-        distinct = distinct-taken taken;
+        emptied = held-after .emptied;
+        resting = resting-after taken s;
+        distinct = distinct-taken taken s;
         noMorePositions = λ c h. position-after c ∙ s .noMorePositions c h;
         noMoreHoldings = λ u h. each (_≡ noHolding) u (λ e. absurd (omega (arith, e, known, h))) (s .noMoreHoldings u h);
       }
 
-pub cancel-sound : (t : Tables) (a : Account) (number : ℕ) → Sound t a → cancelVerdict (named t a number) ≡ Accepted → Sound t (applied a (cancelChange (named t a number)))
+pub cancel-there : (t : Tables) (a : Account) (number : ℕ) → cancelVerdict (named t a number) ≡ Accepted → placeOf a number < 32
 unfolding cancelVerdict named
-cancel-sound t a number s e = after-sound t a number s (ltb-true (placeOf a number) 32 (went-on (ltb (placeOf a number) 32) NoSuchOrder Accepted e .0))
+cancel-there t a number e = ltb-true (placeOf a number) 32 (went-on (ltb (placeOf a number) 32) NoSuchOrder Accepted e .0)
+
+pub cancel-sound : (t : Tables) (a : Account) (number : ℕ) → Sound t a → cancelVerdict (named t a number) ≡ Accepted → Sound t (applied a (cancelChange (named t a number)))
+cancel-sound t a number s e = after-sound t a number s (cancel-there t a number e)

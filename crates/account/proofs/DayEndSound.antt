@@ -22,7 +22,8 @@ use Rattle.account.specs.declared.account.Account.{Account}
 use Rattle.account.specs.declared.account.Holding.{Holding}
 use Rattle.account.specs.declared.judged.Verdict.the-variants.{Accepted}
 use Rattle.account.specs.declared.tables.Tables.{Tables}
-use Rattle.account.proofs.Bounds.{payout-sound, row-of, covered-in}
+use Rattle.account.proofs.Bounds.{row-of, covered-in}
+use Rattle.account.proofs.Held.{Held, sound-held, waiting-paid}
 use Rattle.account.proofs.Installed.{InRange, figures-passed, installed-sound, same-n, same-m, same-right, same-rights, same-total, count-installed, covered-installed}
 use Rattle.account.proofs.Kept.{margin-kept, covered-kept}
 use Rattle.account.proofs.Listed.{listed-at}
@@ -83,6 +84,18 @@ module _ (t : Tables) (a : Account) where
         holding = holding-after;
       }
 
+-- no order rests, and what waits was held and is so still
+pub day-end-held : (t new : Tables) (a : Account) → Held t a → Held new (dayEnded new a)
+day-end-held t new a held =
+    let ended = day-ended new a in
+    let none = no-orders new (dayEnded new a) (ended .orders) in
+    record {
+      rows = ap length (ended .orders) ∙ length-replicate 32 free;
+      emptied = λ i h zero. none .places i;
+      holds = ended .holds ∙ sym (none .holds);
+      reach = omega (arith, ended .holds, ended .waits, ended .cash, waiting-paid held);
+    }
+
 -- an underlying that is not there has no contract, so no unit of it stays locked
 covers-none : (t : Tables) (a : Account) → SoundTables t → (u : ℕ) → t .m ≤ u → coveredUnits t a u ≡ 0
 unfolding coveredUnits
@@ -105,6 +118,9 @@ module _ (t : Tables) (a : Account) (f : Figures) (s : Sound t a) (passed : InRa
 
   ended : Ended new a after
   ended = day-ended new a
+
+  held : Held new after
+  held = day-end-held t new a (sound-held s)
 
   tables-after : SoundTables new
   tables-after = installed-sound t f (s .tables) passed
@@ -141,11 +157,11 @@ module _ (t : Tables) (a : Account) (f : Figures) (s : Sound t a) (passed : InRa
       record {
         tables = tables-after;
         positionRows = ap length (ended .positions) ∙ length-map (a .positions) netted ∙ s .positionRows;
-        orderRows = ap length (ended .orders) ∙ length-replicate 32 free;
+        orderRows = held .rows;
         holdingRows = ended .rows;
         ceiling = omega (arith, ended .money, s .ceiling);
-        holds = ended .holds ∙ sym (none .holds);
-        reach = omega (arith, ended .holds, ended .waits, ended .cash, payout-sound s .held, s .reach);
+        holds = held .holds;
+        reach = held .reach;
         waiting = omega (arith, ended .waits, s .waiting);
         margin = ended .margin;
         rights = λ u h. omega (arith, s .rights u (known u h), count-after Long u, none .resting (isKind BuyOpen) u, same-rights t f (s .tables) u (known u h));
@@ -156,7 +172,7 @@ module _ (t : Tables) (a : Account) (f : Figures) (s : Sound t a) (passed : InRa
         units = λ u h. rw (holding-known u h) (omega (arith, none .reserve u));
         locked = λ u h. rw (holding-known u h) (omega (arith, covered-after u, covered-in s u (known u h)));
         calls = calls-after;
-        emptied = λ i h zero. none .places i;
+        emptied = held .emptied;
         resting = λ i h some. absurd (none .numbers i some);
         distinct = λ i j hi hj some same. absurd (none .numbers i some);
         noMorePositions = λ c h. no-more-positions c (omega (arith, h, same-n t f));

@@ -1,11 +1,10 @@
--- A fill takes from a resting order what it moves in the position: an open moves from what rests to what is held, within the same totals; a close takes both off, and both were there. Its hold was among the holds and no less than a buy pays, margin moves with short, and what a sell brings was within the ceiling.
+-- A fill takes from a resting order what it moves in the position: an open moves from what rests to what is held, within the same totals; a close takes both off, and both were there. Margin moves with short, and what a sell brings was within the ceiling.
 use mathlib.Core.Path.{_≡_, refl, sym, ap, subst, _∙_}
 use mathlib.Core.Bool.{Bool, true, false, not, _&&_, _||_, and-true, and-false, false≢true}
-use Prim.Native.Nat.{ℕ, _+_, _-_, _*_, _≤_, _<_}
-use native.Mathlib.Nat.{mul-le-mul-left}
+use Prim.Native.Nat.{ℕ, _+_, _*_, _≤_, _<_}
 use native.Mathlib.Omega.{arith}
-use borrow.Author.Tests.{leb-true, ltb-true, eqb-true, eq-eqb}
-use lib.Dec.{eqb, leb, ltb}
+use borrow.Author.Tests.{eqb-true, eq-eqb}
+use lib.Dec.{eqb, ltb}
 use lib.ListN.{length-set}
 use lib.Seq.{set-getD}
 use Rattle.terms.specs.Codes.{kindCode}
@@ -14,64 +13,31 @@ use Rattle.terms.specs.Ranges.{rangeOf, _∈_}
 use Rattle.terms.specs.declared.kind.OrderKind.{OrderKind}
 use Rattle.terms.specs.declared.kind.OrderKind.the-variants.{BuyOpen, SellClose, SellOpen, BuyClose, CoveredOpen, CoveredClose}
 use Rattle.terms.specs.declared.kind.Side.the-variants.{Long, Short, Covered}
-use Rattle.terms.specs.declared.measure.Measure.the-variants.{Price, Quantity, Money}
-use Rattle.terms.specs.declared.refusal.Refusal.the-variants.{OutOfRange, NoSuchOrder, FillBarred, CeilingPassed, CashBelowZero}
+use Rattle.terms.specs.declared.measure.Measure.the-variants.{Price, Quantity}
 use Rattle.terms.specs.declared.right.Right.{Right}
 use Rattle.terms.specs.declared.right.Right.the-variants.{Put}
 use Rattle.terms.proofs.Codes.{kind-coded}
-use Rattle.terms.proofs.Ranges.{first-holds, second-holds, inside}
+use Rattle.terms.proofs.Ranges.{second-holds}
 use Rattle.rules.specs.Count.{forCount}
-use Rattle.rules.specs.Premium.{premiumOf}
-use Rattle.rules.proofs.Rounding.{premium-rises}
-use Rattle.entries.specs.declared.entry.Contract.{Contract}
 use Rattle.entries.specs.declared.entry.Fill.{Fill}
 use Rattle.entries.specs.declared.entry.Order.{Order}
-use Rattle.entries.specs.declared.entry.Underlying.{Underlying}
 use Rattle.account.specs.Changes.{applied}
-use Rattle.account.specs.Fills.{placeOf, named, priceAllowed, paid, fillVerdict, cashAfter, premiumAfter, marginAfter, fillChange}
-use Rattle.account.specs.Money.{holdBy, kindOf, marginOne, marginIn}
+use Rattle.account.specs.Fills.{placeOf, named, fillVerdict, cashAfter, premiumAfter, marginAfter, fillChange}
+use Rattle.account.specs.Money.{kindOf, marginOne, marginIn}
 use Rattle.account.specs.Orders.{coveredPut, orderAllowed}
 use Rattle.account.specs.Rows.{noHolding, contract, underlying, position, holding, order}
-use Rattle.account.specs.Sound.{Sound, asOrder}
+use Rattle.account.specs.Sound.{Sound, SoundOrder, asOrder}
 use Rattle.account.specs.Sums.{_when_}
 use Rattle.account.specs.Totals.{isOf, countOf, isKind, isOpen, restingOn, rightsIn, totalIn}
 use Rattle.account.specs.declared.account.Account.{Account}
 use Rattle.account.specs.declared.account.Resting.{Resting}
-use Rattle.account.specs.declared.judged.Named.{Named}
 use Rattle.account.specs.declared.judged.Verdict.the-variants.{Accepted}
 use Rattle.account.specs.declared.tables.Tables.{Tables}
 use Rattle.account.proofs.Allowed.{contract-known}
+use Rattle.account.proofs.Filled.{FillPassed, fill-held, fill-passed, fill-takes}
+use Rattle.account.proofs.Held.{Held, sound-held}
 use Rattle.account.proofs.Moved.{closer-of, Moves, position-elsewhere, count-at, count-in, covered-units, margin-moved}
-use Rattle.account.proofs.Passed.{met-passed, went-on}
-use Rattle.account.proofs.Taken.{found, Takes, resting-order, resting-taken, closing-taken, reserved-taken, holds-taken, places-taken, distinct-taken}
-
--- what an accepted fill passed, as far as soundness and its differences rest on it
-pub record FillPassed (f : Named) (fill : Fill) : Type 0 where
-  pub there : f .place < 32
-  pub enough : fill .quantity ≤ f .order .left .0
-  pub price : buysOf (kindOf (f .order)) ≡ true → fill .price ≤ f .order .price
-  pub ceiling : buysOf (kindOf (f .order)) ≡ false → f .sheet .cash + f .sheet .premium + paid f fill ≤ 1_000_000_000_000_000
-  pub cash : buysOf (kindOf (f .order)) ≡ true → paid f fill ≤ f .sheet .cash
-
-pub fill-passed : (f : Named) (fill : Fill) → fillVerdict f fill ≡ Accepted → FillPassed f fill
-unfolding fillVerdict
-fill-passed f fill e =
-    let buys = buysOf (kindOf (f .order)) in
-    let within = leb (fill .quantity) (f .order .left .0) in
-    let priced = priceAllowed buys (f .order .price) (fill .price) in
-    let total = f .sheet .cash + f .sheet .premium + paid f fill in
-    let range = went-on ((fill .quantity ∈ rangeOf Quantity) && (fill .price ∈ rangeOf Price)) OutOfRange _ e in
-    let place = went-on (ltb (f .place) 32) NoSuchOrder _ (range .1) in
-    let bar = went-on (within && priced) FillBarred _ (place .1) in
-    let ceiling = went-on (buys || (total ∈ rangeOf Money)) CeilingPassed _ (bar .1) in
-    let cash = went-on (not buys || leb (paid f fill) (f .sheet .cash)) CashBelowZero Accepted (ceiling .1) in
-    record {
-      there = ltb-true _ _ (place .0);
-      enough = leb-true _ _ (first-holds within priced (bar .0));
-      price = λ pays. leb-true _ _ (subst (λ (b : Bool). priceAllowed b (f .order .price) (fill .price) ≡ true) pays (second-holds within priced (bar .0)));
-      ceiling = λ sells. inside total (rangeOf Money) (subst (λ (b : Bool). (b || (total ∈ rangeOf Money)) ≡ true) sells (ceiling .0)) .1;
-      cash = λ pays. leb-true _ _ (met-passed buys (leb (paid f fill) (f .sheet .cash)) (cash .0) pays);
-    }
+use Rattle.account.proofs.Taken.{Takes, resting-order, resting-taken, closing-taken, reserved-taken, resting-after, distinct-taken}
 
 -- a buy pays from cash; what a sell brings joins cash or premium
 money-within : (kind : OrderKind) (cash premium sum most : ℕ) → cash + premium ≤ most → (buysOf kind ≡ false → cash + premium + sum ≤ most)
@@ -82,25 +48,6 @@ money-within SellOpen cash premium sum most h room = omega (arith, room refl)
 money-within BuyClose cash premium sum most h room = omega arith
 money-within CoveredOpen cash premium sum most h room = omega (arith, room refl)
 money-within CoveredClose cash premium sum most h room = omega arith
-
--- a buy pays the premium at its own price or below, so at most its share of the hold
-pub pays-its-share : (kind : OrderKind) (k : Contract) (u : Underlying) (price limit q : ℕ) → buysOf kind ≡ true → price ≤ limit → forCount q (premiumOf price (k .unit)) ≤ forCount q (holdBy kind k u limit)
-unfolding forCount
-pays-its-share BuyOpen k u price limit q pays below = mul-le-mul-left q (premium-rises (k .unit) below)
-pays-its-share SellClose k u price limit q pays below = absurd (false≢true pays)
-pays-its-share SellOpen k u price limit q pays below = absurd (false≢true pays)
-pays-its-share BuyClose k u price limit q pays below = mul-le-mul-left q (premium-rises (k .unit) below)
-pays-its-share CoveredOpen k u price limit q pays below = absurd (false≢true pays)
-pays-its-share CoveredClose k u price limit q pays below = mul-le-mul-left q (premium-rises (k .unit) below)
-
--- so cash still reaches for what is held: a buy frees no less than it pays, a sell pays nothing
-still-reaches : (kind : OrderKind) (cash sum holds share : ℕ) → holds ≤ cash → (buysOf kind ≡ true → sum ≤ share) → holds - share ≤ cashAfter (movesOf kind) (buysOf kind) cash sum
-still-reaches BuyOpen cash sum holds share h paid = omega (arith, paid refl)
-still-reaches SellClose cash sum holds share h paid = omega arith
-still-reaches SellOpen cash sum holds share h paid = omega arith
-still-reaches BuyClose cash sum holds share h paid = omega (arith, paid refl)
-still-reaches CoveredOpen cash sum holds share h paid = omega arith
-still-reaches CoveredClose cash sum holds share h paid = omega (arith, paid refl)
 
 -- margin moves up with kind 3 and down with kind 4
 margin-follows : (kind : OrderKind) (before after q one : ℕ) → after + (q when isKind BuyClose (kindCode kind)) * one ≡ before + (q when isKind SellOpen (kindCode kind)) * one
@@ -151,19 +98,17 @@ module _ (t : Tables) (a : Account) (fill : Fill) (s : Sound t a) (p : FillPasse
   abbrev q : ℕ
   q = fill .quantity
 
-  pub taken : Takes t a after place q
-  unfolding applied fillChange named
-  taken =
-      record {
-        sound = s;
-        put = record { rows = s .orderRows; within = p .there; orders = refl };
-        waits = refl;
-        some = found a (fill .number) (p .there);
-        enough = p .enough;
-      }
+  abbrev held : Held t a
+  held = sound-held s
+
+  abbrev taken : Takes t a after place q
+  taken = fill-takes t a fill held p
+
+  allowed : SoundOrder t (a .last) r
+  allowed = resting-order taken s
 
   code : kindCode (kindOf r) ≡ r .kind
-  code = kind-coded (r .kind) (kindOf r) (resting-order taken .listed)
+  code = kind-coded (r .kind) (kindOf r) (allowed .listed)
 
   -- what rests of a closing kind on a contract is held there
   close-held : opensOf (kindOf r) ≡ false → q ≤ countOf (movesOf (kindOf r)) (position a (r .contract))
@@ -177,7 +122,7 @@ module _ (t : Tables) (a : Account) (fill : Fill) (s : Sound t a) (p : FillPasse
   moves =
       record {
         rows = s .positionRows;
-        there = contract-known t (asOrder r) (resting-order taken .allowed);
+        there = contract-known t (asOrder r) (allowed .allowed);
         few = s .tables .fewContracts;
         positions = refl;
         code = code;
@@ -202,12 +147,6 @@ module _ (t : Tables) (a : Account) (fill : Fill) (s : Sound t a) (p : FillPasse
       let shifts : ℕ → Type 0 = λ n. marginIn t after + (q when isKind BuyClose n) * one ≡ a .sheet .margin + (q when isKind SellOpen n) * one in
       margin-follows (kindOf r) (a .sheet .margin) (marginIn t after) q one (subst shifts (sym code) (omega (arith, margin-moved moves, s .margin)))
 
-  reach-after : after .sheet .holds ≤ after .sheet .cash
-  unfolding applied fillChange named
-  reach-after =
-      let k = contract t (r .contract) in
-      still-reaches (kindOf r) (a .sheet .cash) _ (a .sheet .holds) _ (s .reach) (λ pays. pays-its-share (kindOf r) k (underlying t (k .underlying)) (fill .price) (r .price) q pays (p .price pays))
-
   closes-after : (kind : OrderKind) → opensOf kind ≡ false → (c : ℕ) → restingOn kind after c ≤ countOf (movesOf kind) (position after c)
   closes-after kind close c =
       let held = count-at moves (movesOf kind) c in
@@ -221,11 +160,14 @@ module _ (t : Tables) (a : Account) (fill : Fill) (s : Sound t a) (p : FillPasse
       elim [
         | true ↦
             λ e.
-            let own = not-on-put t (asOrder r) (resting-order taken .allowed) (ap (λ k. contract t k .right) (eqb-true (r .contract) c e) ∙ put) in
+            let own = not-on-put t (asOrder r) (allowed .allowed) (ap (λ k. contract t k .right) (eqb-true (r .contract) c e) ∙ put) in
             rw (and-true opens, ← code) own
         | false ↦ λ e. and-false opens
       ] in
       omega (arith, s .calls c put, count-at moves Covered c, ap (q when_) (none (eqb (r .contract) c) refl))
+
+  held-after : Held t after
+  held-after = fill-held t a fill held p
 
   after-sound : Sound t after
   unfolding applied fillChange named rightsIn
@@ -233,11 +175,11 @@ module _ (t : Tables) (a : Account) (fill : Fill) (s : Sound t a) (p : FillPasse
       record {
         tables = s .tables;
         positionRows = length-set (a .positions) (r .contract) _ ∙ s .positionRows;
-        orderRows = length-set (a .orders) place _ ∙ s .orderRows;
+        orderRows = held-after .rows;
         holdingRows = length-set (a .holdings) (contract t (r .contract) .underlying) _ ∙ s .holdingRows;
         ceiling = money-within (kindOf r) (a .sheet .cash) (a .sheet .premium) _ 1_000_000_000_000_000 (s .ceiling) (p .ceiling);
-        holds = omega (arith, s .holds, holds-taken taken);
-        reach = reach-after;
+        holds = held-after .holds;
+        reach = held-after .reach;
         waiting = s .waiting;
         margin = margin-after;
         rights = λ u h. omega (arith, s .rights u h, count-in moves Long u, resting-taken taken (isKind BuyOpen) u);
@@ -248,9 +190,9 @@ module _ (t : Tables) (a : Account) (fill : Fill) (s : Sound t a) (p : FillPasse
         units = λ u h. rw (holding-after u) (omega (arith, s .units u h, covered-units moves u, reserved-taken taken u));
         locked = λ u h. rw (holding-after u) (s .locked u h);
         calls = calls-after;
-        emptied = λ i h. places-taken taken i h .0;
-        resting = λ i h. places-taken taken i h .1;
-        distinct = distinct-taken taken;
+        emptied = held-after .emptied;
+        resting = resting-after taken s;
+        distinct = distinct-taken taken s;
         noMorePositions = λ c h. position-elsewhere moves c (λ e. absurd (omega (arith, e, h, moves .there))) ∙ s .noMorePositions c h;
         noMoreHoldings = λ u h. holding-after u ∙ s .noMoreHoldings u h;
       }

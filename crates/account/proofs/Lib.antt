@@ -6,7 +6,9 @@ pub mod CancelSound
 pub mod DayEndSound
 pub mod Decided
 pub mod FillSound
+pub mod Filled
 pub mod Flags
+pub mod Held
 pub mod Holdings
 pub mod InOrder
 pub mod Installed
@@ -27,6 +29,7 @@ pub mod Placed
 pub mod Received
 pub mod Rows
 pub mod Standing
+pub mod StepHeld
 pub mod StepSound
 pub mod Sums
 pub mod Taken

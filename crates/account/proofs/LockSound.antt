@@ -21,9 +21,13 @@ use Rattle.account.specs.declared.judged.Verdict.{Verdict}
 use Rattle.account.specs.declared.judged.Verdict.the-variants.{Accepted}
 use Rattle.account.specs.declared.judged.Waiting.the-variants.{Stays}
 use Rattle.account.specs.declared.tables.Tables.{Tables}
+use Rattle.account.proofs.Held.{Held, sound-held, unplaced-held}
 use Rattle.account.proofs.Holdings.{each-holding}
 use Rattle.account.proofs.Passed.{went-on}
 use Rattle.account.proofs.Standing.{standing-sound, stands}
+
+pub locking-held : {t : Tables} {a : Account} → Held t a → (u units : ℕ) → Held t (applied a (locking a u units))
+locking-held held u units = unplaced-held held _ (omega arith) refl (held .reach)
 
 module _ (t : Tables) (a : Account) (u : ℕ) where
   known : (units : ℕ) (rest : Verdict) → (unitsAllowed t u units else OutOfRange then rest) ≡ Accepted → (u < t .m) × (rest ≡ Accepted)
@@ -35,9 +39,10 @@ module _ (t : Tables) (a : Account) (u : ℕ) where
   locking-sound units s there used most =
       let new : Holding = record { locked = record { 0 = units }; bought = holding a u .bought } in
       let each = each-holding t a s u there new in
+      let same = stands t a s (a .sheet) Stays u new in
       let sound =
       standing-sound t a s (a .sheet) (a .waiting) (set (a .holdings) u new)
-      (record { ceiling = s .ceiling; holds = refl; reach = s .reach; waiting = s .waiting; margin = refl })
+      (record { ceiling = s .ceiling; held = subst (Held t) same (locking-held (sound-held s) u units); waiting = s .waiting; margin = refl })
       (record {
         rows = length-set (a .holdings) u new ∙ s .holdingRows;
         bought = λ v. each (λ h. h .bought .0 ≡ holding a v .bought .0) v (ap (λ k. holding a k .bought .0)) refl;
@@ -45,7 +50,7 @@ module _ (t : Tables) (a : Account) (u : ℕ) where
         locked = λ v h. each (λ h. h .locked .0 ≤ 2_000_000_000) v (λ e. most) (s .locked v h);
         noMore = λ v h. each (_≡ noHolding) v (λ e. absurd (omega (arith, e, there, h))) (s .noMoreHoldings v h);
       }) in
-      subst (Sound t) (sym (stands t a s (a .sheet) Stays u new)) sound
+      subst (Sound t) (sym same) sound
 
   pub lock-sound : (units : ℕ) → Sound t a → lockVerdict t (holding a u) u units ≡ Accepted → Sound t (applied a (lockChange a u units))
   unfolding lockVerdict lockChange

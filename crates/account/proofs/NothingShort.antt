@@ -3,12 +3,12 @@ use mathlib.Core.Path.{_≡_, refl, sym, ap, _∙_}
 use mathlib.Core.Bool.{true, false, and-true}
 use Prim.Native.Nat.{ℕ, _+_, _≤_, _<_}
 use native.Mathlib.Omega.{arith}
-use borrow.Author.Tests.{leb-true, ltb-true, eq-eqb}
-use lib.Dec.{leb, ltb}
+use borrow.Author.Tests.{leb-true, eq-eqb}
+use lib.Dec.{leb}
 use Rattle.terms.specs.Codes.{kindCode}
 use Rattle.terms.specs.Kinds.{movesOf, opensOf, buysOf}
 use Rattle.terms.specs.declared.kind.OrderKind.the-variants.{BuyOpen, BuyClose}
-use Rattle.terms.specs.declared.refusal.Refusal.the-variants.{OutOfRange, NoSuchOrder, SpareTooFew}
+use Rattle.terms.specs.declared.refusal.Refusal.the-variants.{OutOfRange, SpareTooFew}
 use Rattle.rules.specs.Count.{forCount}
 use Rattle.entries.specs.declared.entry.Fill.{Fill}
 use Rattle.account.specs.Fills.{placeOf, named, paid, fillVerdict, cancelVerdict}
@@ -25,6 +25,8 @@ use Rattle.account.specs.declared.judged.Verdict.the-variants.{Accepted}
 use Rattle.account.specs.declared.tables.Tables.{Tables}
 use Rattle.account.proofs.CancelSound as cancels
 use Rattle.account.proofs.FillSound as fills
+use Rattle.account.proofs.Filled.{fill-passed, fill-takes}
+use Rattle.account.proofs.Held.{sound-held}
 use Rattle.account.proofs.Moved.{margin-moved}
 use Rattle.account.proofs.Passed.{went-on}
 use Rattle.account.proofs.Taken.{resting-taken, holds-taken}
@@ -59,8 +61,8 @@ module _ (t : Tables) (a : Account) (fill : Fill) where
   pub fill-exact : Sound t a → fillVerdict (named t a (fill .number)) fill ≡ Accepted → FillExact
   unfolding named forCount
   fill-exact s e =
-      let passed = fills.fill-passed (named t a (fill .number)) fill e in
-      let taken = fills.taken t a fill s passed in
+      let passed = fill-passed (named t a (fill .number)) fill e in
+      let taken = fill-takes t a fill (sound-held s) passed in
       let moves = fills.moves t a fill s passed in
       let shifts = margin-moved moves in
       record {
@@ -81,12 +83,11 @@ module _ (t : Tables) (a : Account) (number : ℕ) where
     pub bought : (cancelled .order .left .0 when isKind BuyOpen (cancelled .order .kind)) ≤ cancelled .holding .bought .0
 
   pub cancel-exact : Sound t a → cancelVerdict (named t a number) ≡ Accepted → CancelExact
-  unfolding cancelVerdict named
+  unfolding named
   cancel-exact s e =
-      let place = placeOf a number in
-      let under = contract t (order a place .contract) .underlying in
-      let there = ltb-true place 32 (went-on (ltb place 32) NoSuchOrder Accepted e .0) in
-      let taken = cancels.taken t a number s there in
+      let under = contract t (order a (placeOf a number) .contract) .underlying in
+      let there = cancels.cancel-there t a number e in
+      let taken = cancels.cancel-takes t a number (sound-held s) there in
       let rests = resting-taken taken (isKind BuyOpen) under in
       let own = rw (eq-eqb under under refl, and-true) at rests in
       record {

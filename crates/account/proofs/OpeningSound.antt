@@ -17,6 +17,7 @@ use Rattle.account.specs.Sound.{SoundTables, Sound}
 use Rattle.account.specs.Sums.{Σ, _when_}
 use Rattle.account.specs.Totals.{isOf, countOf, countIn, isKind, isOpen, rightsIn, totalIn, coveredUnits}
 use Rattle.account.specs.declared.tables.Tables.{Tables}
+use Rattle.account.proofs.Held.{Held}
 use Rattle.account.proofs.NoOrders.{no-orders}
 use Rattle.account.proofs.Placed.{nothing-when}
 use Rattle.account.proofs.Rows.{untouched}
@@ -46,6 +47,11 @@ module _ (t : Tables) (cash : ℕ) where
   unfolding coveredUnits
   no-covered u = over-positions (λ c p. unitsFor (p .covered) (contract t c .unit) .0 when isOf t u c) (λ c. rw zero-mul (nothing-when (isOf t u c)))
 
+  pub opening-held : Held t (opening cash)
+  opening-held =
+      let none = no-orders t (opening cash) refl in
+      record { rows = length-replicate 32 free; emptied = λ i h zero. none .places i; holds = sym (none .holds); reach = omega arith }
+
   pub opening-sound : SoundTables t → cash ≤ 1_000_000_000_000_000 → Sound t (opening cash)
   unfolding marginIn rightsIn totalIn forCount
   opening-sound tables within =
@@ -53,11 +59,11 @@ module _ (t : Tables) (cash : ℕ) where
       record {
         tables = tables;
         positionRows = length-replicate 64 noPosition;
-        orderRows = length-replicate 32 free;
+        orderRows = opening-held .rows;
         holdingRows = length-replicate 8 noHolding;
         ceiling = omega arith;
-        holds = sym (none .holds);
-        reach = omega arith;
+        holds = opening-held .holds;
+        reach = opening-held .reach;
         waiting = omega arith;
         margin = sym (over-positions (λ c p. forCount (p .short .0) (marginOne t c)) (λ c. zero-mul _));
         rights = λ u h. omega (arith, no-count Long u, none .resting (isKind BuyOpen) u);
@@ -68,7 +74,7 @@ module _ (t : Tables) (cash : ℕ) where
         units = λ u h. omega (arith, no-covered u, none .reserve u);
         locked = λ u h. rw (no-holding u) (omega arith);
         calls = λ c put. ap (λ (p : Position). p .covered .0) (no-position c);
-        emptied = λ i h zero. none .places i;
+        emptied = opening-held .emptied;
         resting = λ i h some. absurd (none .numbers i some);
         distinct = λ i j hi hj some same. absurd (none .numbers i some);
         noMorePositions = λ c h. no-position c;

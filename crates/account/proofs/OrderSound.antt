@@ -1,10 +1,10 @@
 -- An accepted order keeps the account sound: each total grows by the order's own term, in its own underlying or on its own contract, and the check that its kind meets left room for it. Its number is above all that rest, so it names no other order.
 use mathlib.Core.Path.{_≡_, refl, sym, ap, _∙_}
 use mathlib.Core.Bool.{Bool, true, false, _&&_}
-use mathlib.Core.Logic.{_≢_, _⊎_, inl, inr, ⊎-elim}
+use mathlib.Core.Logic.{_≢_}
 use Prim.Native.Nat.{ℕ, zero, suc, _+_, _*_, _≤_, _<_}
 use native.Mathlib.Decide.{ℕ-discrete}
-use native.Mathlib.Nat.{le-refl, mul-zero}
+use native.Mathlib.Nat.{le-refl}
 use native.Mathlib.Omega.{arith}
 use borrow.Author.Tests.{eqb-true}
 use lib.Dec.{eqb}
@@ -12,19 +12,15 @@ use lib.ListN.{length-set}
 use Rattle.terms.specs.Codes.{kindCode}
 use Rattle.terms.specs.Kinds.{movesOf, opensOf}
 use Rattle.terms.specs.declared.kind.OrderKind.{OrderKind}
-use Rattle.terms.specs.declared.kind.OrderKind.the-variants.{BuyOpen, SellClose, SellOpen, BuyClose, CoveredOpen, CoveredClose}
+use Rattle.terms.specs.declared.kind.OrderKind.the-variants.{BuyOpen, CoveredOpen}
 use Rattle.terms.specs.declared.kind.OrderKindCoded.the-variants.{Listed}
 use Rattle.terms.specs.declared.kind.Side.{Side}
 use Rattle.terms.specs.declared.kind.Side.the-variants.{Long, Short, Covered}
 use Rattle.terms.proofs.Codes.{kind-read}
 use Rattle.terms.proofs.Ranges.{first-holds, second-holds}
-use Rattle.rules.specs.Count.{forCount}
-use Rattle.entries.specs.declared.entry.Contract.{Contract}
 use Rattle.entries.specs.declared.entry.Order.{Order}
-use Rattle.entries.specs.declared.entry.Underlying.{Underlying}
 use Rattle.account.specs.Changes.{applied}
-use Rattle.account.specs.Checks.{Available, meets, orderVerdict}
-use Rattle.account.specs.Money.{holdBy}
+use Rattle.account.specs.Checks.{orderVerdict}
 use Rattle.account.specs.Orders.{under, orderAllowed, freePlace, factsOf, rested, orderChange}
 use Rattle.account.specs.Rows.{free, noPosition, contract, underlying, position, holding, order}
 use Rattle.account.specs.Sound.{SoundOrder, Sound}
@@ -35,9 +31,10 @@ use Rattle.account.specs.declared.account.Resting.{Resting}
 use Rattle.account.specs.declared.judged.Verdict.the-variants.{Accepted}
 use Rattle.account.specs.declared.tables.Tables.{Tables}
 use Rattle.account.proofs.Allowed.{underlying-known}
+use Rattle.account.proofs.Held.{Held, sound-held}
 use Rattle.account.proofs.Kept.{count-kept, margin-kept, covered-kept}
 use Rattle.account.proofs.KindNumbers.{answered-kind, is-kind, is-open}
-use Rattle.account.proofs.Ordered.{after, placed, resting-after, closing-after, reserved-after, holds-after, positions-after, locked-after, bought-after, no-more-holdings}
+use Rattle.account.proofs.Ordered.{after, order-held, placed, resting-after, closing-after, reserved-after, positions-after, locked-after, bought-after, no-more-holdings}
 use Rattle.account.proofs.Passed.{Passed, facts-known, accepted-passed}
 use Rattle.account.proofs.Placed.{order-there, order-elsewhere, each-order}
 
@@ -45,15 +42,6 @@ use Rattle.account.proofs.Placed.{order-there, order-elsewhere, each-or
 fits : (test : Bool) (total more limit : ℕ) → total ≤ limit → (test ≡ true → total + more ≤ limit) → total + (more when test) ≤ limit
 fits true total more limit h room = room refl
 fits false total more limit h room = omega arith
-
--- an order that is not held to what is available holds nothing
-checked-or-none : (kind : OrderKind) (k : Contract) (u : Underlying) (price : ℕ) → (meets kind Available ≡ true) ⊎ (holdBy kind k u price ≡ 0)
-checked-or-none BuyOpen k u price = inl refl
-checked-or-none SellClose k u price = inr refl
-checked-or-none SellOpen k u price = inl refl
-checked-or-none BuyClose k u price = inl refl
-checked-or-none CoveredOpen k u price = inr refl
-checked-or-none CoveredClose k u price = inl refl
 
 -- numbers that are at most the last, and one above it put among them: still no two are the same
 apart : (old new : ℕ → ℕ) (place last number : ℕ) → last < number → new place ≡ number → ((i : ℕ) → i ≢ place → new i ≡ old i) → ((i : ℕ) → i < 32 → old i ≤ last)
@@ -105,16 +93,16 @@ module _ (t : Tables) (a : Account) (o : Order) (s : Sound t a) (p : Passed t a 
   unfolding rightsIn
   rights-after u h =
       let room = within (isKind BuyOpen) (rightsIn t a) (λ v. underlying t v .rights) (o .quantity) (s .rights) (λ e. p .rights (is-kind BuyOpen (o .kind) e)) u h in
-      omega (arith, room, count-after Long u, resting-after t a o s p (isKind BuyOpen) u)
+      omega (arith, room, count-after Long u, resting-after t a o (sound-held s) p (isKind BuyOpen) u)
 
   total-after : (u : ℕ) → u < t .m → totalIn t (after t a o) u ≤ underlying t u .total
   unfolding totalIn
   total-after u h =
       let room = within isOpen (totalIn t a) (λ v. underlying t v .total) (o .quantity) (s .total) (λ e. p .total (sym (is-open (o .kind)) ∙ e)) u h in
-      omega (arith, room, count-after Long u, count-after Short u, count-after Covered u, resting-after t a o s p isOpen u)
+      omega (arith, room, count-after Long u, count-after Short u, count-after Covered u, resting-after t a o (sound-held s) p isOpen u)
 
   counted-after : (u : ℕ) → u < t .m → restingIn (isKind BuyOpen) t (after t a o) u ≤ holding (after t a o) u .bought .0
-  counted-after u h = omega (arith, s .counted u h, resting-after t a o s p (isKind BuyOpen) u, bought-after t a o s p u)
+  counted-after u h = omega (arith, s .counted u h, resting-after t a o (sound-held s) p (isKind BuyOpen) u, bought-after t a o s p u)
 
   daily-after : (u : ℕ) → u < t .m → holding (after t a o) u .bought .0 ≤ underlying t u .daily
   daily-after u h =
@@ -128,16 +116,7 @@ module _ (t : Tables) (a : Account) (o : Order) (s : Sound t a) (p : Passed t a 
       let needed = o .quantity * contract t (o .contract) .unit in
       let in-own = s .units (under t o) (underlying-known t o (p .allowed) (s .tables)) in
       let room = within (isKind CoveredOpen) used (λ v. holding a v .locked .0) needed (s .units) (λ e. omega (arith, in-own, p .spare (is-kind CoveredOpen (o .kind) e))) u h in
-      omega (arith, room, covered-kept t a (after t a o) (positions-after t a o s p) u, reserved-after t a o s p u, locked-after t a o s p u)
-
-  reach-after : after t a o .sheet .holds ≤ after t a o .sheet .cash
-  unfolding applied orderChange forCount
-  reach-after =
-      let k = contract t (o .contract) in
-      ⊎-elim
-      (λ checked. omega (arith, p .hold checked))
-      (λ none. omega (arith, s .reach, ap (o .quantity *_) none, mul-zero (o .quantity)))
-      (checked-or-none (o .kind) k (underlying t (k .underlying)) (o .price))
+      omega (arith, room, covered-kept t a (after t a o) (positions-after t a o s p) u, reserved-after t a o (sound-held s) p u, locked-after t a o s p u)
 
   closes-after : (kind : OrderKind) → opensOf kind ≡ false → (c : ℕ) → restingOn kind (after t a o) c ≤ countOf (movesOf kind) (position (after t a o) c)
   closes-after kind close c =
@@ -150,14 +129,17 @@ module _ (t : Tables) (a : Account) (o : Order) (s : Sound t a) (p : Passed t a 
       rw (← same-kind, ← same-contract) (p .closing (ap opensOf same-kind ∙ close)) in
       let room = fits (joins && here) (restingOn kind a c) (o .quantity) (countOf (movesOf kind) (position a c)) (s .closes kind close c) own in
       let held = ap (countOf (movesOf kind)) (position-after c) in
-      omega (arith, room, held, closing-after t a o s p kind c)
+      omega (arith, room, held, closing-after t a o (sound-held s) p kind c)
 
   distinct-after : (i j : ℕ) → i < 32 → j < 32 → 1 ≤ order (after t a o) i .number → order (after t a o) i .number ≡ order (after t a o) j .number → i ≡ j
   distinct-after =
       let number : Resting → ℕ = λ r. r .number in
-      let there = order-there (placed t a o s p) in
-      let elsewhere = order-elsewhere (placed t a o s p) in
+      let there = order-there (placed t a o (sound-held s) p) in
+      let elsewhere = order-elsewhere (placed t a o (sound-held s) p) in
       apart (λ i. order a i .number) (λ i. order (after t a o) i .number) (freePlace a) (a .last) (o .number) (p .number) (ap number there) (λ i other. ap number (elsewhere i other)) (numbered t a s) (s .distinct)
+
+  held-after : Held t (after t a o)
+  held-after = order-held t a o (sound-held s) p
 
   after-sound : Sound t (after t a o)
   unfolding applied orderChange
@@ -165,11 +147,11 @@ module _ (t : Tables) (a : Account) (o : Order) (s : Sound t a) (p : Passed t a 
       record {
         tables = s .tables;
         positionRows = length-set (a .positions) 64 noPosition ∙ s .positionRows;
-        orderRows = length-set (a .orders) (freePlace a) (rested o) ∙ s .orderRows;
+        orderRows = held-after .rows;
         holdingRows = length-set (a .holdings) (under t o) _ ∙ s .holdingRows;
         ceiling = s .ceiling;
-        holds = holds-after t a o s p;
-        reach = reach-after;
+        holds = held-after .holds;
+        reach = held-after .reach;
         waiting = s .waiting;
         margin = s .margin ∙ sym (margin-kept t a (after t a o) (positions-after t a o s p));
         rights = rights-after;
@@ -180,8 +162,8 @@ module _ (t : Tables) (a : Account) (o : Order) (s : Sound t a) (p : Passed t a 
         units = units-after;
         locked = λ u h. rw (locked-after t a o s p u) (s .locked u h);
         calls = λ c put. rw (position-after c) (s .calls c put);
-        emptied = each-order (placed t a o s p) (λ r. r .number ≡ 0 → r ≡ free) (λ e. absurd (omega (arith, p .number))) (s .emptied);
-        resting = each-order (placed t a o s p) (λ r. 1 ≤ r .number → SoundOrder t (o .number) r) (λ some. rested-sound t o (p .allowed)) (λ i h some. still-sound t (order a i) (p .number) (s .resting i h some));
+        emptied = held-after .emptied;
+        resting = each-order (placed t a o (sound-held s) p) (λ r. 1 ≤ r .number → SoundOrder t (o .number) r) (λ some. rested-sound t o (p .allowed)) (λ i h some. still-sound t (order a i) (p .number) (s .resting i h some));
         distinct = distinct-after;
         noMorePositions = λ c h. position-after c ∙ s .noMorePositions c h;
         noMoreHoldings = no-more-holdings t a o s p;

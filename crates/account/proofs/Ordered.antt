@@ -1,21 +1,26 @@
--- What an accepted order leaves: it takes a free place, so each total over the orders grows by its own term; the positions stay, since no contract has the number 64; the holding of its underlying grows by what it buys open, and no other holding changes.
+-- What an accepted order leaves: it takes a free place, so each total over the orders grows by its own term, and what it holds was available; the positions stay, since no contract has the number 64; the holding of its underlying grows by what it buys open, and no other holding changes.
 use mathlib.Core.Path.{_≡_, refl, sym, ap, _∙_}
 use mathlib.Core.Bool.{Bool, true, false, cond, _&&_, and-true, and-false}
+use mathlib.Core.Logic.{_⊎_, inl, inr, ⊎-elim}
 use Prim.Native.Nat.{ℕ, _+_, _*_, _≤_, _<_}
-use native.Mathlib.Nat.{add-zero}
+use native.Mathlib.Nat.{add-zero, mul-zero}
 use native.Mathlib.Omega.{arith}
 use borrow.Author.Tests.{eqb-true, ne-eqb}
 use lib.Dec.{eqb}
+use lib.ListN.{length-set}
 use lib.Seq.{set-out}
 use Rattle.terms.specs.Codes.{kindCode}
 use Rattle.terms.specs.declared.kind.OrderKind.{OrderKind}
-use Rattle.terms.specs.declared.kind.OrderKind.the-variants.{BuyOpen, CoveredOpen}
+use Rattle.terms.specs.declared.kind.OrderKind.the-variants.{BuyOpen, SellClose, SellOpen, BuyClose, CoveredOpen, CoveredClose}
 use Rattle.rules.specs.Count.{forCount}
+use Rattle.entries.specs.declared.entry.Contract.{Contract}
 use Rattle.entries.specs.declared.entry.Order.{Order}
+use Rattle.entries.specs.declared.entry.Underlying.{Underlying}
 use Rattle.account.specs.Changes.{applied}
-use Rattle.account.specs.Money.{holdOne, holdOf, holdsIn}
+use Rattle.account.specs.Checks.{Available, meets}
+use Rattle.account.specs.Money.{holdBy, holdOne, holdOf, holdsIn}
 use Rattle.account.specs.Orders.{under, freePlace, factsIn, rested, orderChange}
-use Rattle.account.specs.Rows.{free, noHolding, noPosition, contract, holding, order}
+use Rattle.account.specs.Rows.{free, noHolding, noPosition, contract, underlying, holding, order}
 use Rattle.account.specs.Sound.{Sound}
 use Rattle.account.specs.Sums.{_when_}
 use Rattle.account.specs.Totals.{isOf, isKind, overOrders, restingIn, restingOn, reservedUnits}
@@ -24,10 +29,11 @@ use Rattle.account.specs.declared.account.Holding.{Holding}
 use Rattle.account.specs.declared.account.Resting.{Resting}
 use Rattle.account.specs.declared.tables.Tables.{Tables}
 use Rattle.account.proofs.Allowed.{underlying-known}
+use Rattle.account.proofs.Held.{Held}
 use Rattle.account.proofs.KindNumbers.{answered-kind}
 use Rattle.account.proofs.Lowest.{lowest-passes}
 use Rattle.account.proofs.Passed.{Passed}
-use Rattle.account.proofs.Placed.{nothing-when, nothing-held, Put, over-placed}
+use Rattle.account.proofs.Placed.{nothing-when, nothing-held, Put, each-order, over-placed}
 use Rattle.account.proofs.Rows.{changed-row}
 
 -- a holding with more bought
@@ -42,18 +48,27 @@ more-bought : (here buys : Bool) (more : ℕ) (h : Holding) → cond here (grown
 more-bought true buys more h = rw and-true
 more-bought false buys more h = rw and-false (sym (add-zero _))
 
+-- an order that is not held to what is available holds nothing
+checked-or-none : (kind : OrderKind) (k : Contract) (u : Underlying) (price : ℕ) → (meets kind Available ≡ true) ⊎ (holdBy kind k u price ≡ 0)
+checked-or-none BuyOpen k u price = inl refl
+checked-or-none SellClose k u price = inr refl
+checked-or-none SellOpen k u price = inl refl
+checked-or-none BuyClose k u price = inl refl
+checked-or-none CoveredOpen k u price = inr refl
+checked-or-none CoveredClose k u price = inl refl
+
 -- the account after an order whose values are allowed
 abbrev pub after : Tables → Account → Order → Account
 after t a o = applied a (orderChange (factsIn t a o) o)
 
-module _ (t : Tables) (a : Account) (o : Order) (s : Sound t a) (p : Passed t a o) where
+module _ (t : Tables) (a : Account) (o : Order) (h : Held t a) (p : Passed t a o) where
   was-free : order a (freePlace a) ≡ free
   unfolding freePlace
-  was-free = s .emptied (freePlace a) (p .place) (eqb-true _ _ (lowest-passes 32 (λ i. eqb (order a i .number) 0) (p .place)))
+  was-free = h .emptied (freePlace a) (p .place) (eqb-true _ _ (lowest-passes 32 (λ i. eqb (order a i .number) 0) (p .place)))
 
   pub placed : Put a (after t a o) (freePlace a) (rested o)
   unfolding applied orderChange
-  placed = record { rows = s .orderRows; within = p .place; orders = refl }
+  placed = record { rows = h .rows; within = p .place; orders = refl }
 
   over-after : (f : Resting → ℕ) → f free ≡ 0 → overOrders (after t a o) f ≡ overOrders a f + f (rested o)
   over-after = over-placed placed was-free
@@ -68,11 +83,32 @@ module _ (t : Tables) (a : Account) (o : Order) (s : Sound t a) (p : Passed t a 
   unfolding reservedUnits
   reserved-after u = over-after _ refl
 
-  pub holds-after : after t a o .sheet .holds ≡ holdsIn t (after t a o)
+  holds-after : after t a o .sheet .holds ≡ holdsIn t (after t a o)
   unfolding applied orderChange holdsIn holdOf
   holds-after =
       let own = ap (λ (kind : OrderKind). forCount (o .quantity) (holdOne t kind (o .contract) (o .price))) (answered-kind (o .kind)) in
-      omega (arith, s .holds, own, over-after (holdOf t) (nothing-held t))
+      omega (arith, h .holds, own, over-after (holdOf t) (nothing-held t))
+
+  reach-after : after t a o .sheet .holds ≤ after t a o .sheet .cash
+  unfolding applied orderChange forCount
+  reach-after =
+      let k = contract t (o .contract) in
+      ⊎-elim
+      (λ checked. omega (arith, p .hold checked))
+      (λ none. omega (arith, h .reach, ap (o .quantity *_) none, mul-zero (o .quantity)))
+      (checked-or-none (o .kind) k (underlying t (k .underlying)) (o .price))
+
+  pub order-held : Held t (after t a o)
+  unfolding applied orderChange
+  order-held =
+      record {
+        rows = length-set (a .orders) (freePlace a) (rested o) ∙ h .rows;
+        emptied = each-order placed (λ r. r .number ≡ 0 → r ≡ free) (λ e. absurd (omega (arith, p .number))) (h .emptied);
+        holds = holds-after;
+        reach = reach-after;
+      }
+
+module _ (t : Tables) (a : Account) (o : Order) (s : Sound t a) (p : Passed t a o) where
 
   pub positions-after : after t a o .positions ≡ a .positions
   unfolding applied orderChange

@@ -22,14 +22,18 @@ use Rattle.account.specs.Verdicts.{_else_then_}
 use Rattle.account.specs.declared.account.Account.{Account}
 use Rattle.account.specs.declared.judged.Facts.{Facts}
 use Rattle.account.specs.declared.judged.Verdict.{Verdict}
-use Rattle.account.specs.declared.judged.Verdict.the-variants.{Accepted}
+use Rattle.account.specs.declared.judged.Verdict.the-variants.{Accepted, Refused}
 use Rattle.account.specs.declared.tables.Tables.{Tables}
 use Rattle.account.proofs.Available.{reaches}
+
+-- a refusal accepts nothing
+pub never : {why : Refusal} → Refused why ≡ Accepted → ⊥
+never e = let z : _≡_ {A = ℕ} 0 1 = cc in omega arith
 
 -- a check before an accepted verdict was passed, and what follows it accepted
 pub went-on : (passed : Bool) (why : Refusal) (rest : Verdict) → (passed else why then rest) ≡ Accepted → (passed ≡ true) × (rest ≡ Accepted)
 went-on true why rest e = (refl, e)
-went-on false why rest e = let never : _≡_ {A = ℕ} 0 1 = cc in absurd (omega arith)
+went-on false why rest e = absurd (never e)
 
 -- a check that is met and did not refuse was passed
 pub met-passed : (met passed : Bool) → (not met || passed) ≡ true → met ≡ true → passed ≡ true

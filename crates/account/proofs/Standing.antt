@@ -6,7 +6,7 @@ use native.Mathlib.Omega.{arith}
 use lib.ListN.{length, set}
 use lib.Seq.{set-out}
 use Rattle.account.specs.Changes.{applied, waitingAfter, withoutPosition}
-use Rattle.account.specs.Money.{holdsIn, marginIn}
+use Rattle.account.specs.Money.{marginIn}
 use Rattle.account.specs.Rows.{free, noHolding, noPosition, holding}
 use Rattle.account.specs.Sound.{Sound}
 use Rattle.account.specs.Totals.{countIn, overOrders, rightsIn, totalIn, coveredUnits, reservedUnits}
@@ -15,17 +15,17 @@ use Rattle.account.specs.declared.account.Holding.{Holding}
 use Rattle.account.specs.declared.account.Sheet.{Sheet}
 use Rattle.account.specs.declared.judged.Waiting.{Waiting}
 use Rattle.account.specs.declared.tables.Tables.{Tables}
+use Rattle.account.proofs.Held.{Held}
 
 -- the account with another sheet, another payout that waits and other holdings
 abbrev pub standing : Account → Sheet → ℕ → List Holding → Account
 standing a sheet waiting holdings =
     record { sheet = sheet; waiting = waiting; positions = a .positions; orders = a .orders; holdings = holdings; last = a .last }
 
--- what its money must keep: what is held moves with what waits
-pub record Moneyed (a b : Account) : Type 0 where
+-- what its money must keep
+pub record Moneyed (t : Tables) (a b : Account) : Type 0 where
   pub ceiling : b .sheet .cash + b .sheet .premium ≤ 1_000_000_000_000_000
-  pub holds : b .sheet .holds + a .waiting ≡ a .sheet .holds + b .waiting
-  pub reach : b .sheet .holds ≤ b .sheet .cash
+  pub held : Held t b
   pub waiting : b .waiting ≤ 10_000_000_000_000
   pub margin : b .sheet .margin ≡ a .sheet .margin
 
@@ -38,9 +38,9 @@ pub record Stocked (t : Tables) (a b : Account) : Type 0 where
   pub noMore : (u : ℕ) → t .m ≤ u → holding b u ≡ noHolding
 
 module _ (t : Tables) (a : Account) (s : Sound t a) where
-  pub standing-sound : (sheet : Sheet) (waiting : ℕ) (holdings : List Holding) → Moneyed a (standing a sheet waiting holdings) → Stocked t a (standing a sheet waiting holdings)
+  pub standing-sound : (sheet : Sheet) (waiting : ℕ) (holdings : List Holding) → Moneyed t a (standing a sheet waiting holdings) → Stocked t a (standing a sheet waiting holdings)
       → Sound t (standing a sheet waiting holdings)
-  unfolding holdsIn marginIn rightsIn totalIn countIn overOrders coveredUnits reservedUnits
+  unfolding marginIn rightsIn totalIn countIn overOrders coveredUnits reservedUnits
   standing-sound sheet waiting holdings money stock =
       record {
         tables = s .tables;
@@ -48,8 +48,8 @@ module _ (t : Tables) (a : Account) (s : Sound t a) where
         orderRows = s .orderRows;
         holdingRows = stock .rows;
         ceiling = money .ceiling;
-        holds = omega (arith, money .holds, s .holds);
-        reach = money .reach;
+        holds = money .held .holds;
+        reach = money .held .reach;
         waiting = money .waiting;
         margin = money .margin ∙ s .margin;
         rights = s .rights;

@@ -1,9 +1,6 @@
 -- A refused entry leaves tables and account as they were, and each kind of accepted entry keeps them sound; so does a list of entries, one after the other.
 use mathlib.Core.Path.{_≡_, refl}
 use mathlib.Core.List.{List, [], _∷_}
-use Prim.Native.Nat.{ℕ}
-use native.Mathlib.Omega.{arith}
-use Rattle.terms.specs.declared.refusal.Refusal.{Refusal}
 use Rattle.entries.specs.declared.entry.Entry.{Entry}
 use Rattle.entries.specs.declared.entry.Entry.the-variants.{Deposit, Withdraw, Lock, Unlock, Order, Fill, Cancel, DayEnd, Pay, Drop, Underlying, Contract, Opening}
 use Rattle.entries.specs.declared.entry.Figures.{Figures}
@@ -19,12 +16,10 @@ use Rattle.account.proofs.DayEndSound.{day-end-sound}
 use Rattle.account.proofs.FillSound.{fill-sound}
 use Rattle.account.proofs.LockSound.{lock-sound, unlock-sound}
 use Rattle.account.proofs.OrderSound.{order-sound}
+use Rattle.account.proofs.Passed.{never}
 use Rattle.account.proofs.TransferSound.{deposit-sound, drop-sound, pay-sound, withdraw-sound}
 
 -- a record of set-up is refused
-never : {why : Refusal} → Refused why ≡ Accepted → ⊥
-never e = let z : _≡_ {A = ℕ} 0 1 = cc in omega arith
-
 accepted-sound : (t : Tables) (a : Account) (entry : Entry) (f : Figures) → Sound t a → refusalOf t a entry f ≡ Accepted → Sound (tablesAfter t entry f) (accountAfter t a entry f)
 unfolding refusalOf tablesAfter accountAfter
 accepted-sound t a (Deposit amount) f s e = deposit-sound t a s amount e

@@ -7,6 +7,7 @@ use native.Mathlib.Nat.{add-mul}
 use native.Mathlib.Omega.{arith}
 use borrow.Author.Tests.{eqb-true, eqb-false, le-leb}
 use lib.Dec.{eqb, ltb}
+use lib.ListN.{length, length-set}
 use Rattle.terms.specs.Kinds.{movesOf}
 use Rattle.terms.specs.Ranges.{rangeOf, _∈_}
 use Rattle.terms.specs.declared.kind.OrderKind.{OrderKind}
@@ -25,6 +26,7 @@ use Rattle.account.specs.declared.account.Account.{Account}
 use Rattle.account.specs.declared.account.Resting.{Resting}
 use Rattle.account.specs.declared.tables.Tables.{Tables}
 use Rattle.account.proofs.Bounds.{order-figures}
+use Rattle.account.proofs.Held.{Held}
 use Rattle.account.proofs.Lowest.{lowest-passes}
 use Rattle.account.proofs.Placed.{nothing-when, nothing-held, Put, order-there, order-elsewhere, each-order, over-changed}
 
@@ -66,6 +68,14 @@ parted f r q enough none add = go (eqb (r .left .0) q) refl
 quantity-allowed : (n : ℕ) → 1 ≤ n → n ≤ 100 → (n ∈ rangeOf Quantity) ≡ true
 quantity-allowed n some few = rw (le-leb 1 n some, le-leb n 100 few)
 
+-- a place that is given up is a free one
+pub after-emptied : (r : Resting) (q : ℕ) → 1 ≤ r .number → orderAfter r q .number ≡ 0 → orderAfter r q ≡ free
+after-emptied r q some = go (eqb (r .left .0) q)
+  where
+    go : (all : Bool) → cond all free (leaving r (r .left .0 - q)) .number ≡ 0 → cond all free (leaving r (r .left .0 - q)) ≡ free
+    go true none = refl
+    go false none = absurd (omega (arith, none, some))
+
 -- an order may rest on with less left
 less-sound : (t : Tables) (last : ℕ) (r : Resting) (n : ℕ) → 1 ≤ n → n ≤ r .left .0 → SoundOrder t last r → SoundOrder t last (leaving r n)
 unfolding orderAllowed
@@ -75,16 +85,12 @@ less-sound t last r n some less sound =
     let others : Bool → Bool = λ quantity. quantity && (r .price ∈ rangeOf Price) && ltb (r .contract) (t .n) && not (coveredPut (movesOf (kindOf r)) (contract t (r .contract) .right)) in
     record { listed = sound .listed; allowed = ap others same ∙ sound .allowed; accepted = sound .accepted }
 
--- what may be at a place: nothing, or an order that may rest
-abbrev Place : Tables → ℕ → Resting → Type 0
-Place t last r = (r .number ≡ 0 → r ≡ free) × (1 ≤ r .number → SoundOrder t last r)
-
-after-place : (t : Tables) (last : ℕ) (r : Resting) (q : ℕ) → 1 ≤ r .number → q ≤ r .left .0 → SoundOrder t last r → Place t last (orderAfter r q)
-after-place t last r q some enough sound = go (eqb (r .left .0) q) refl
+after-sound : (t : Tables) (last : ℕ) (r : Resting) (q : ℕ) → q ≤ r .left .0 → SoundOrder t last r → 1 ≤ orderAfter r q .number → SoundOrder t last (orderAfter r q)
+after-sound t last r q enough sound = go (eqb (r .left .0) q) refl
   where
-    go : (all : Bool) → eqb (r .left .0) q ≡ all → Place t last (cond all free (leaving r (r .left .0 - q)))
-    go true e = (λ none. refl, λ never. absurd (omega (arith, never)))
-    go false e = (λ none. absurd (omega (arith, none, some)), λ number. less-sound t last r (r .left .0 - q) (omega (arith, enough, eqb-false (r .left .0) q e)) (omega arith) sound)
+    go : (all : Bool) → eqb (r .left .0) q ≡ all → 1 ≤ cond all free (leaving r (r .left .0 - q)) .number → SoundOrder t last (cond all free (leaving r (r .left .0 - q)))
+    go true e never = absurd (omega (arith, never))
+    go false e number = less-sound t last r (r .left .0 - q) (omega (arith, enough, eqb-false (r .left .0) q e)) (omega arith) sound
 
 after-number : (r : Resting) (q : ℕ) → 1 ≤ orderAfter r q .number → orderAfter r q .number ≡ r .number
 after-number r q = go (eqb (r .left .0) q)
@@ -95,7 +101,6 @@ after-number r q = go (eqb (r .left .0) q)
 
 -- b's orders are a's with q taken from the one at a place, and the same waits
 pub record Takes (t : Tables) (a b : Account) (place q : ℕ) : Type 0 where
-  pub sound : Sound t a
   pub put : Put a b place (orderAfter (order a place) q)
   pub waits : b .waiting ≡ a .waiting
   pub some : 1 ≤ order a place .number
@@ -104,9 +109,6 @@ pub record Takes (t : Tables) (a b : Account) (place q : ℕ) : Type 0 where
 module _ {t : Tables} {a b : Account} {place q : ℕ} (taken : Takes t a b place q) where
   abbrev r : Resting
   r = order a place
-
-  pub resting-order : SoundOrder t (a .last) r
-  resting-order = taken .sound .resting place (taken .put .within) (taken .some)
 
   over-taken : (f : Resting → ℕ) → f free ≡ 0 → Additive (λ n. f (leaving r n)) → overOrders b f + f (leaving r q) ≡ overOrders a f
   over-taken f none add = omega (arith, over-changed (taken .put) f, parted f r q (taken .enough) none add)
@@ -126,10 +128,15 @@ module _ {t : Tables} {a b : Account} {place q : ℕ} (taken : Takes t a b place
   unfolding holdsIn holdOf forCount
   holds-taken = omega (arith, taken .waits, over-taken (holdOf t) (nothing-held t) (additive-times (holdOne t (kindOf r) (r .contract) (r .price)) true))
 
-  pub places-taken : (i : ℕ) → i < 32 → Place t (a .last) (order b i)
-  places-taken =
-      let s = taken .sound in
-      each-order (taken .put) (Place t (a .last)) (after-place t (a .last) r q (taken .some) (taken .enough) resting-order) (λ i h. (s .emptied i h, s .resting i h))
+  -- what waits and what rests is all that is held, and cash reaches for it where it does after what is paid
+  pub held-taken : Held t a → b .sheet .holds ≡ a .sheet .holds - forCount q (holdOne t (kindOf r) (r .contract) (r .price)) → b .sheet .holds ≤ b .sheet .cash → Held t b
+  held-taken held freed reach =
+      record {
+        rows = ap length (taken .put .orders) ∙ length-set (a .orders) place _ ∙ held .rows;
+        emptied = each-order (taken .put) (λ r. r .number ≡ 0 → r ≡ free) (after-emptied r q (taken .some)) (held .emptied);
+        holds = omega (arith, held .holds, holds-taken, freed);
+        reach = reach;
+      }
 
   same-number : (i : ℕ) → 1 ≤ order b i .number → order b i .number ≡ order a i .number
   same-number i =
@@ -139,8 +146,15 @@ module _ {t : Tables} {a b : Account} {place q : ℕ} (taken : Takes t a b place
         | no other ↦ λ some. ap number (order-elsewhere (taken .put) i other)
       ]
 
-  pub distinct-taken : (i j : ℕ) → i < 32 → j < 32 → 1 ≤ order b i .number → order b i .number ≡ order b j .number → i ≡ j
-  distinct-taken i j hi hj some same =
-      let here = same-number i some in
-      let there = same-number j (omega (arith, some, same)) in
-      taken .sound .distinct i j hi hj (omega (arith, some, here)) (sym here ∙ same ∙ there)
+  module _ (sound : Sound t a) where
+    pub resting-order : SoundOrder t (a .last) r
+    resting-order = sound .resting place (taken .put .within) (taken .some)
+
+    pub resting-after : (i : ℕ) → i < 32 → 1 ≤ order b i .number → SoundOrder t (a .last) (order b i)
+    resting-after = each-order (taken .put) (λ r. 1 ≤ r .number → SoundOrder t (a .last) r) (after-sound t (a .last) r q (taken .enough) resting-order) (sound .resting)
+
+    pub distinct-taken : (i j : ℕ) → i < 32 → j < 32 → 1 ≤ order b i .number → order b i .number ≡ order b j .number → i ≡ j
+    distinct-taken i j hi hj some same =
+        let here = same-number i some in
+        let there = same-number j (omega (arith, some, same)) in
+        sound .distinct i j hi hj (omega (arith, some, here)) (sym here ∙ same ∙ there)

@@ -22,7 +22,7 @@ use Rattle.account.specs.declared.judged.Verdict.the-variants.{Accepted}
 use Rattle.account.specs.declared.judged.Waiting.{Waiting}
 use Rattle.account.specs.declared.tables.Tables.{Tables}
 use Rattle.account.proofs.Available.{reaches}
-use Rattle.account.proofs.Bounds.{payout-sound}
+use Rattle.account.proofs.Held.{Held, sound-held, unplaced-held, waiting-held}
 use Rattle.account.proofs.Passed.{went-on}
 use Rattle.account.proofs.Standing.{Moneyed, standing, standing-sound, stands}
 
@@ -44,45 +44,54 @@ asked a amount e =
       within = leb-true _ _ (sym (reaches (a .sheet) amount) ∙ within .0);
     }
 
+-- what is asked for was available and is held; what waits is among the holds, so that paid or dropped it leaves the orders' holds
+module _ {t : Tables} {a : Account} (held : Held t a) where
+  pub deposit-held : (amount : ℕ) → Held t (applied a (depositChange (a .sheet) (a .last) amount))
+  unfolding depositChange
+  deposit-held amount = unplaced-held held _ (omega arith) refl (omega (arith, held .reach))
+
+  pub withdraw-held : (amount : ℕ) → Asked a amount → Held t (applied a (withdrawChange (a .sheet) (a .last) amount))
+  unfolding withdrawChange
+  withdraw-held amount passed = unplaced-held held _ (omega arith) (omega (arith, passed .none)) (omega (arith, passed .within))
+
+  pub pay-held : Held t (applied a (payChange (a .sheet) (a .last) (a .waiting)))
+  unfolding payChange
+  pay-held = unplaced-held held _ (omega arith) (omega (arith, waiting-held held)) (omega (arith, held .reach))
+
+  pub drop-held : Held t (applied a (dropChange (a .sheet) (a .last) (a .waiting)))
+  unfolding dropChange
+  drop-held = unplaced-held held _ (omega arith) (omega (arith, waiting-held held)) (omega (arith, held .reach))
+
 module _ (t : Tables) (a : Account) (s : Sound t a) where
   -- no underlying has the number 8
-  money-sound : (sheet : Sheet) (waiting : Waiting) → Moneyed a (standing a sheet (waitingAfter waiting (a .waiting)) (a .holdings)) → Sound t (applied a (ofSheet sheet waiting (a .last)))
+  money-sound : (sheet : Sheet) (waiting : Waiting) → Moneyed t a (applied a (ofSheet sheet waiting (a .last))) → Sound t (applied a (ofSheet sheet waiting (a .last)))
   money-sound sheet waiting money =
       let after = waitingAfter waiting (a .waiting) in
       let holdings = set-out (a .holdings) 8 noHolding (omega (arith, s .holdingRows)) in
       let same = stands t a s sheet waiting 8 noHolding ∙ ap (standing a sheet after) holdings in
       let sound =
-      standing-sound t a s sheet after (a .holdings) money
+      standing-sound t a s sheet after (a .holdings) (subst (Moneyed t a) same money)
       (record { rows = s .holdingRows; bought = λ u. refl; units = s .units; locked = s .locked; noMore = s .noMoreHoldings }) in
       subst (Sound t) (sym same) sound
 
   pub deposit-sound : (amount : ℕ) → depositVerdict (a .sheet) amount ≡ Accepted → Sound t (applied a (depositChange (a .sheet) (a .last) amount))
-  unfolding depositVerdict depositChange
+  unfolding depositVerdict depositChange applied
   deposit-sound amount e =
       let total = a .sheet .cash + a .sheet .premium + amount in
       let after-range = went-on (amountAllowed amount) OutOfRange _ e .1 in
       let ceiling = went-on (total ∈ rangeOf Money) CeilingPassed _ after-range .0 in
-      money-sound _ _
-      (record { ceiling = omega (arith, inside total (rangeOf Money) ceiling .1); holds = refl; reach = omega (arith, s .reach); waiting = s .waiting; margin = refl })
+      money-sound _ _ (record { ceiling = omega (arith, inside total (rangeOf Money) ceiling .1); held = deposit-held (sound-held s) amount; waiting = s .waiting; margin = refl })
 
   pub withdraw-sound : (amount : ℕ) → withdrawVerdict (a .sheet) (a .waiting) amount ≡ Accepted → Sound t (applied a (withdrawChange (a .sheet) (a .last) amount))
-  unfolding withdrawChange
+  unfolding withdrawChange applied
   withdraw-sound amount e =
       let passed = asked a amount e in
-      money-sound _ _
-      (record { ceiling = s .ceiling; holds = omega (arith, passed .none); reach = omega (arith, passed .within); waiting = passed .most; margin = refl })
+      money-sound _ _ (record { ceiling = s .ceiling; held = withdraw-held (sound-held s) amount passed; waiting = passed .most; margin = refl })
 
-  -- what waits is among the holds, so that paid or dropped it leaves the orders' holds
   pub pay-sound : Sound t (applied a (payChange (a .sheet) (a .last) (a .waiting)))
-  unfolding payChange
-  pay-sound =
-      let payout = payout-sound s in
-      money-sound _ _
-      (record { ceiling = omega (arith, s .ceiling); holds = omega (arith, payout .held); reach = omega (arith, s .reach); waiting = omega arith; margin = refl })
+  unfolding payChange applied
+  pay-sound = money-sound _ _ (record { ceiling = omega (arith, s .ceiling); held = pay-held (sound-held s); waiting = omega arith; margin = refl })
 
   pub drop-sound : Sound t (applied a (dropChange (a .sheet) (a .last) (a .waiting)))
-  unfolding dropChange
-  drop-sound =
-      let payout = payout-sound s in
-      money-sound _ _
-      (record { ceiling = s .ceiling; holds = omega (arith, payout .held); reach = omega (arith, s .reach); waiting = omega arith; margin = refl })
+  unfolding dropChange applied
+  drop-sound = money-sound _ _ (record { ceiling = s .ceiling; held = drop-held (sound-held s); waiting = omega arith; margin = refl })

@@ -1,7 +1,7 @@
 -- A record ruled and then booked is entered: where a test fails the ruling is the refusal, and the book stays; where all pass it is what the kind adds, and the book is the one after it. What a ruling rests on was tested when it was made.
 use mathlib.Core.Path.{_≡_, refl, sym, ap, subst, _∙_}
 use mathlib.Core.Bool.{Bool, true, false, _&&_}
-use Prim.Native.Nat.{_≤_}
+use Prim.Native.Nat.{_<_}
 use borrow.Author.Tests.{ltb-true}
 use lib.Dec.{ltb}
 use Rattle.terms.specs.Ranges.{rangeOf, _∈_}
@@ -38,7 +38,7 @@ module _ (b : Book) (f : Figures) where
   abbrev pub by-kind : Entry·of.Entry → Ruling
   by-kind entry = bySetUp (underlyingRuling (b .tables)) (contractRuling (b .tables)) openingRuling (Entry (decisionOn (b .tables) (b .account) entry f)) entry
 
-  pub entry-ruling : (entry : Entry·of.Entry) → codeOf (kindOf entry) ≤ 8 → Entry (decisionOn (b .tables) (b .account) entry f) ≡ by-kind entry
+  pub entry-ruling : (entry : Entry·of.Entry) → codeOf (kindOf entry) < 16 → Entry (decisionOn (b .tables) (b .account) entry f) ≡ by-kind entry
   entry-ruling entry few = sym (no-set-up (underlyingRuling (b .tables)) (contractRuling (b .tables)) openingRuling (Entry (decisionOn (b .tables) (b .account) entry f)) entry few)
 
   -- a ruling tells the verdict, is booked as the book after it, and rests on what it needs

@@ -105,7 +105,7 @@ module _ (b : Book) (s : SoundBook b) where
       })
 
   module _ (f : Figures) where
-    entry-sound : (entry : Entry) → codeOf (kindOf entry) ≤ 8 → inPlace (b .stage) (codeOf (kindOf entry)) ≡ true → refusalOf (b .tables) (b .account) entry f ≡ Accepted → SoundBook (withEntry b entry f)
+    entry-sound : (entry : Entry) → codeOf (kindOf entry) < 16 → inPlace (b .stage) (codeOf (kindOf entry)) ≡ true → refusalOf (b .tables) (b .account) entry f ≡ Accepted → SoundBook (withEntry b entry f)
     unfolding step
     entry-sound entry few placed accepted =
         let after : Verdict → Outcome = λ v. outcome v (b .tables) (b .account) (tablesAfter (b .tables) entry f) (accountAfter (b .tables) (b .account) entry f) in

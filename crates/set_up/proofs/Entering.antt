@@ -1,7 +1,7 @@
--- A record goes by its verdict: a check that fails refuses it and leaves the book as it was, and where none fails the book is the one after it. An entry, whose number is at most 8, is in its place only in an open book, and goes by what is said of all kinds but set-up's.
+-- A record goes by its verdict: a check that fails refuses it and leaves the book as it was, and where none fails the book is the one after it. An entry, whose number is below 16, is in its place only in an open book, and goes by what is said of all kinds but set-up's.
 use mathlib.Core.Path.{_≡_, refl}
 use mathlib.Core.Bool.{true}
-use Prim.Native.Nat.{ℕ, _≤_}
+use Prim.Native.Nat.{ℕ, _<_}
 use native.Mathlib.Omega.{arith}
 use Rattle.terms.specs.Ranges.{_to_}
 use Rattle.terms.proofs.Ranges.{inside}
@@ -9,7 +9,7 @@ use Rattle.entries.specs.Entries.{kindOf}
 use Rattle.entries.specs.Table.{codeOf}
 use Rattle.entries.specs.declared.entry.Contract as Contracts·of
 use Rattle.entries.specs.declared.entry.Entry.{Entry}
-use Rattle.entries.specs.declared.entry.Entry.the-variants.{Deposit, Withdraw, Lock, Unlock, Order, Fill, Cancel, DayEnd, Underlying, Contract, Opening}
+use Rattle.entries.specs.declared.entry.Entry.the-variants.{Deposit, Withdraw, Lock, Unlock, Order, Fill, Cancel, DayEnd, Pay, Drop, Underlying, Contract, Opening}
 use Rattle.entries.specs.declared.entry.Figures.{Figures}
 use Rattle.entries.specs.declared.entry.Underlying as Underlyings·of
 use Rattle.account.specs.Steps.{refusalOf}
@@ -24,13 +24,13 @@ use Rattle.set_up.specs.declared.stages.Stage.the-variants.{Underlyings,
 abbrev pub verdict : Book → Figures → Entry → Verdict
 verdict b f entry = bySetUp (underlyingVerdict (b .tables)) (contractVerdict (b .tables)) openingVerdict (refusalOf (b .tables) (b .account) entry f) entry
 
-pub open-stage : (stage : Stage) (kind : ℕ) → kind ≤ 8 → inPlace stage kind ≡ true → stage ≡ Entries
+pub open-stage : (stage : Stage) (kind : ℕ) → kind < 16 → inPlace stage kind ≡ true → stage ≡ Entries
 open-stage Underlyings kind few placed = absurd (omega (arith, inside kind (16 to 17) placed))
 open-stage Contracts kind few placed = absurd (omega (arith, inside kind (17 to 18) placed))
 open-stage Entries kind few placed = refl
 
 -- an entry of the account, or one of the three records of set-up
-pub each-entry : (P : Entry → Type 0) → ((entry : Entry) → codeOf (kindOf entry) ≤ 8 → P entry) → ((row : Underlyings·of.Underlying) → P (Underlying row))
+pub each-entry : (P : Entry → Type 0) → ((entry : Entry) → codeOf (kindOf entry) < 16 → P entry) → ((row : Underlyings·of.Underlying) → P (Underlying row))
     → ((row : Contracts·of.Contract) → P (Contract row)) → ((cash : ℕ) → P (Opening cash)) → (entry : Entry) → P entry
 each-entry P booked underlying contract opening (Deposit amount) = booked (Deposit amount) (omega arith)
 each-entry P booked underlying contract opening (Withdraw amount) = booked (Withdraw amount) (omega arith)
@@ -40,13 +40,15 @@ each-entry P booked underlying contract opening (Order o) = booked (Order o) (om
 each-entry P booked underlying contract opening (Fill fill) = booked (Fill fill) (omega arith)
 each-entry P booked underlying contract opening (Cancel number) = booked (Cancel number) (omega arith)
 each-entry P booked underlying contract opening (DayEnd n m) = booked (DayEnd n m) (omega arith)
+each-entry P booked underlying contract opening Pay = booked Pay (omega arith)
+each-entry P booked underlying contract opening Drop = booked Drop (omega arith)
 each-entry P booked underlying contract opening (Underlying row) = underlying row
 each-entry P booked underlying contract opening (Contract row) = contract row
 each-entry P booked underlying contract opening (Opening cash) = opening cash
 
 -- of the first, nothing is said by set-up
 pub no-set-up : {A : Type 0} (underlying : Underlyings·of.Underlying → A) (contract : Contracts·of.Contract → A) (opening : ℕ → A) (other : A) (entry : Entry)
-    → codeOf (kindOf entry) ≤ 8 → bySetUp underlying contract opening other entry ≡ other
+    → codeOf (kindOf entry) < 16 → bySetUp underlying contract opening other entry ≡ other
 no-set-up underlying contract opening other (Deposit amount) few = refl
 no-set-up underlying contract opening other (Withdraw amount) few = refl
 no-set-up underlying contract opening other (Lock u units) few = refl
@@ -55,11 +57,13 @@ no-set-up underlying contract opening other (Order o) few = refl
 no-set-up underlying contract opening other (Fill fill) few = refl
 no-set-up underlying contract opening other (Cancel number) few = refl
 no-set-up underlying contract opening other (DayEnd n m) few = refl
+no-set-up underlying contract opening other Pay few = refl
+no-set-up underlying contract opening other Drop few = refl
 no-set-up underlying contract opening other (Underlying row) few = absurd (omega arith)
 no-set-up underlying contract opening other (Contract row) few = absurd (omega arith)
 no-set-up underlying contract opening other (Opening cash) few = absurd (omega arith)
 
-module _ (b : Book) (f : Figures) (entry : Entry) (few : codeOf (kindOf entry) ≤ 8) where
+module _ (b : Book) (f : Figures) (entry : Entry) (few : codeOf (kindOf entry) < 16) where
   pub entry-verdict : verdict b f entry ≡ refusalOf (b .tables) (b .account) entry f
   entry-verdict = no-set-up (underlyingVerdict (b .tables)) (contractVerdict (b .tables)) openingVerdict (refusalOf (b .tables) (b .account) entry f) entry few
 

@@ -1,4 +1,4 @@
--- A record of a book at its stage: "a book is kinds 16, then 17, then one 18, then kinds 1 to 8; only an accepted record moves this order on" (Records).
+-- A record of a book at its stage: "a book is kinds 16, then 17, then one 18, then kinds 1 to 8; only an accepted record moves this order on" (Records); kinds 9 and 10 are entries too (#101).
 use Prim.Native.Nat.{ℕ, _+_}
 use mathlib.Core.Bool.{Bool, _&&_}
 use lib.Dec.{ltb}
@@ -43,7 +43,7 @@ opened t cash = record { stage = Entries; tables = t; account = opening cash }
 abbrev pub inPlace : Stage → ℕ → Bool
 inPlace Underlyings kind = kind ∈ (16 to 17)
 inPlace Contracts kind = kind ∈ (17 to 18)
-inPlace Entries kind = kind ∈ (1 to 8)
+inPlace Entries kind = kind ∈ (1 to 10)
 
 -- something for each kind of set-up, by what its record carries, and for all other kinds (house)
 abbrev pub bySetUp : {A : Type 0} → (Underlying → A) → (Contract → A) → (ℕ → A) → A → Entry → A
@@ -55,6 +55,8 @@ bySetUp forUnderlying forContract forOpening other (Entry·of.Order o) = other
 bySetUp forUnderlying forContract forOpening other (Entry·of.Fill fill) = other
 bySetUp forUnderlying forContract forOpening other (Entry·of.Cancel number) = other
 bySetUp forUnderlying forContract forOpening other (Entry·of.DayEnd n m) = other
+bySetUp forUnderlying forContract forOpening other Entry·of.Pay = other
+bySetUp forUnderlying forContract forOpening other Entry·of.Drop = other
 bySetUp forUnderlying forContract forOpening other (Entry·of.Underlying row) = forUnderlying row
 bySetUp forUnderlying forContract forOpening other (Entry·of.Contract row) = forContract row
 bySetUp forUnderlying forContract forOpening other (Entry·of.Opening cash) = forOpening cash

@@ -68,7 +68,7 @@ fn in_place(stage: Stage, kind: u16) -> bool
     match stage {
         Stage::Underlyings => (16 <= kind) & (kind <= 17),
         Stage::Contracts => (17 <= kind) & (kind <= 18),
-        Stage::Entries => (1 <= kind) & (kind <= 8),
+        Stage::Entries => (1 <= kind) & (kind <= 10),
     }
 }
 

@@ -1,7 +1,7 @@
 -- `rule` meets its contract: a record out of its place is refused; one in its place goes by its kind, and an entry's place is an open book, whose account is sound.
 use mathlib.Core.Path.{_≡_, refl, sym, ap, _∙_}
 use mathlib.Core.List.{List, [], _∷_}
-use Prim.Native.Nat.{ℕ, _≤_}
+use Prim.Native.Nat.{ℕ, _<_}
 use native.Mathlib.Omega.{arith}
 use borrow.Author.Needs.{needs}
 use borrow.Author.Tests.{not-false, not-true}
@@ -11,7 +11,7 @@ use Rattle.terms.specs.declared.refusal.Refusal.the-variants.{OutOfPlace}
 use Rattle.entries.specs.Entries.{kindOf}
 use Rattle.entries.specs.Table.{codeOf}
 use Rattle.entries.specs.declared.entry.Entry.{Entry}
-use Rattle.entries.specs.declared.entry.Entry.the-variants.{Deposit, Withdraw, Lock, Unlock, Order, Fill, Cancel, DayEnd, Underlying, Contract, Opening}
+use Rattle.entries.specs.declared.entry.Entry.the-variants.{Deposit, Withdraw, Lock, Unlock, Order, Fill, Cancel, DayEnd, Pay, Drop, Underlying, Contract, Opening}
 use Rattle.entries.proofs.entry.Entry as Cases
 use Rattle.set_up.specs.Rulings.{rulingOn}
 use Rattle.set_up.specs.Stages.{inPlace}
@@ -24,9 +24,9 @@ use Rattle.set_up.proofs.ruling.rule.Tie as tie
 
 -- the cases of the enum that are entries on an open book, by their place in it
 abbrev entries : List ℕ
-entries = 0 ∷ 1 ∷ 2 ∷ 3 ∷ 4 ∷ 5 ∷ 6 ∷ 7 ∷ []
+entries = 0 ∷ 1 ∷ 2 ∷ 3 ∷ 4 ∷ 5 ∷ 6 ∷ 7 ∷ 8 ∷ 9 ∷ []
 
-few-kinds : (entry : Entry) → OneOf entries (tagOf Cases.the-type entry) → codeOf (kindOf entry) ≤ 8
+few-kinds : (entry : Entry) → OneOf entries (tagOf Cases.the-type entry) → codeOf (kindOf entry) < 16
 few-kinds (Deposit amount) one = omega arith
 few-kinds (Withdraw amount) one = omega arith
 few-kinds (Lock u units) one = omega arith
@@ -35,9 +35,11 @@ few-kinds (Order o) one = omega arith
 few-kinds (Fill fill) one = omega arith
 few-kinds (Cancel number) one = omega arith
 few-kinds (DayEnd n m) one = omega arith
-few-kinds (Underlying row) one = absurd (miss entries 8 tt one)
-few-kinds (Contract row) one = absurd (miss entries 9 tt one)
-few-kinds (Opening cash) one = absurd (miss entries 10 tt one)
+few-kinds Pay one = omega arith
+few-kinds Drop one = omega arith
+few-kinds (Underlying row) one = absurd (miss entries 10 tt one)
+few-kinds (Contract row) one = absurd (miss entries 11 tt one)
+few-kinds (Opening cash) one = absurd (miss entries 12 tt one)
 
 placed : (c : tie.After-in-place) → let start = c .before .before .before .args in c .in-place .result ≡ inPlace (start .book .stage) (codeOf (kindOf (start .entry)))
 placed c =
@@ -54,7 +56,7 @@ module _ (c : tie.Else1) where
       ∙ sym (ap (by-kind (start .args .book) (start .args .figures)) e)
       ∙ in-its-place (start .args .book) (start .args .entry) (start .args .figures) (sym (placed (c .before)) ∙ not-false _ (c .if1 .left))
 
-few : (c : tie.At-match-keys4) → codeOf (kindOf (start (c .before .before) .args .entry)) ≤ 8
+few : (c : tie.At-match-keys4) → codeOf (kindOf (start (c .before .before) .args .entry)) < 16
 few c = few-kinds (start (c .before .before) .args .entry) (c .match .keys4)
 
 decide-requires : tie.Need-decide-requires
