@@ -11,7 +11,7 @@ use denote.Enum.Declared.{tagOf}
 use Rattle.entries.specs.Entries.{kindOf}
 use Rattle.entries.specs.Table.{isDayEnd}
 use Rattle.entries.specs.declared.entry.Entry.{Entry}
-use Rattle.entries.specs.declared.entry.Entry.the-variants.{Deposit, Withdraw, Lock, Unlock, Order, Fill, Cancel, DayEnd, Underlying, Contract, Opening}
+use Rattle.entries.specs.declared.entry.Entry.the-variants.{Deposit, Withdraw, Lock, Unlock, Order, Fill, Cancel, DayEnd, Pay, Drop, Underlying, Contract, Opening}
 use Rattle.entries.proofs.entry.Entry as Cases
 
 among : ℕ → List ℕ → Bool
@@ -30,7 +30,7 @@ among-them k (l ∷ ks) x (inr h) = either (eqb x k) (among-them l ks x h)
 
 -- the cases in the order of the enum, without the eighth
 abbrev pub others : List ℕ
-others = 0 ∷ 1 ∷ 2 ∷ 3 ∷ 4 ∷ 5 ∷ 6 ∷ 8 ∷ 9 ∷ 10 ∷ []
+others = 0 ∷ 1 ∷ 2 ∷ 3 ∷ 4 ∷ 5 ∷ 6 ∷ 8 ∷ 9 ∷ 10 ∷ 11 ∷ 12 ∷ []
 
 pub no-day-end : (entry : Entry) → OneOf others (tagOf Cases.the-type entry) → isDayEnd (kindOf entry) ≡ false
 unfolding among
@@ -41,7 +41,9 @@ no-day-end (Unlock underlying units) h = refl
 no-day-end (Order order) h = refl
 no-day-end (Fill fill) h = refl
 no-day-end (Cancel number) h = refl
-no-day-end (DayEnd n m) h = sym (among-them 0 (1 ∷ 2 ∷ 3 ∷ 4 ∷ 5 ∷ 6 ∷ 8 ∷ 9 ∷ 10 ∷ []) 7 h)
+no-day-end (DayEnd n m) h = sym (among-them 0 (1 ∷ 2 ∷ 3 ∷ 4 ∷ 5 ∷ 6 ∷ 8 ∷ 9 ∷ 10 ∷ 11 ∷ 12 ∷ []) 7 h)
+no-day-end Pay h = refl
+no-day-end Drop h = refl
 no-day-end (Underlying row) h = refl
 no-day-end (Contract row) h = refl
 no-day-end (Opening cash) h = refl
