@@ -1,3 +1,2 @@
--- Laws that the proofs of functions and the theorems cite: codes that are read, and how long a record that was read is.
+-- The law that the proofs of functions and the theorems cite: how long a record that was read is.
 pub mod Within
-pub mod Words

@@ -1,4 +1,4 @@
--- A record that was read is at least 8 bytes long and lies within the bytes: the table has no shorter one, and one that runs past the end is refused. Every refusal of reading is 1, 2 or 3.
+-- A record that was read is at least 4 bytes long and lies within the bytes: its length counts the head, and one that runs past the end is refused. Every refusal of reading is 1, 2 or 3.
 use mathlib.Core.Path.{_≡_, refl}
 use mathlib.Core.Bool.{Bool, true, false, cond, not, _&&_}
 use mathlib.Core.List.{List}
@@ -18,7 +18,7 @@ use Rattle.entries.specs.declared.entry.EntryCoded.{EntryCoded}
 use Rattle.entries.specs.declared.entry.EntryCoded.the-variants as Entry·answer
 use Rattle.entries.specs.declared.entry.Figures.{Figures}
 use Rattle.entries.specs.declared.kind.Kind.{Kind}
-use Rattle.entries.specs.declared.kind.Kind.the-variants.{Deposit, Withdraw, Lock, Unlock, Order, Fill, Cancel, DayEnd, Underlying, Contract, Opening}
+use Rattle.entries.specs.declared.kind.Kind.the-variants.{DayEnd}
 use Rattle.entries.specs.declared.kind.KindCoded.{KindCoded}
 use Rattle.entries.specs.declared.kind.KindCoded.the-variants as Kind·answer
 use Rattle.reading.specs.Reading.{_at_when_else_, counted, fieldsAt, figuresAt, kindAt, known, lengthAt, listed, mAt, nAt, ofKind, readAt, readFrom, wholeAt}
@@ -28,39 +28,26 @@ use Rattle.reading.specs.declared.Reading.{Reading}
 
 -- an entry lies within so many bytes, and a refusal is 1, 2 or 3
 abbrev pub Within : ℕ → Answer → Type 0
-Within size (Found entry len) = (8 ≤ len) × (len ≤ size)
+Within size (Found entry len) = (4 ≤ len) × (len ≤ size)
 Within size (Refused why place) = (1 ≤ numberOf why) × (numberOf why ≤ 3)
 
-shortest : (kind : Kind) → 8 ≤ lengthOf kind 0 0
-shortest Deposit = omega arith
-shortest Withdraw = omega arith
-shortest Lock = omega arith
-shortest Unlock = omega arith
-shortest Order = omega arith
-shortest Fill = omega arith
-shortest Cancel = omega arith
-shortest DayEnd = omega arith
-shortest Underlying = omega arith
-shortest Contract = omega arith
-shortest Opening = omega arith
-
-fits-eight : (kind : Kind) (len : ℕ) → lengthFits kind len ≡ true → 8 ≤ len
+fits-head : (kind : Kind) (len : ℕ) → lengthFits kind len ≡ true → 4 ≤ len
 unfolding lengthFits
-fits-eight kind len = go (isDayEnd kind)
+fits-head kind len = go (isDayEnd kind)
   where
     day : Bool
     day = len ∈ (lengthOf DayEnd 1 1 to lengthOf DayEnd 64 8)
 
-    go : (test : Bool) → cond test (day && eqb (len % 4) 0) (eqb len (lengthOf kind 0 0)) ≡ true → 8 ≤ len
+    go : (test : Bool) → cond test (day && eqb (len % 4) 0) (eqb len (lengthOf kind 0 0)) ≡ true → 4 ≤ len
     go true fits = omega (arith, inside len (lengthOf DayEnd 1 1 to lengthOf DayEnd 64 8) (first-holds day (eqb (len % 4) 0) fits) .0)
-    go false fits = omega (arith, eqb-true len (lengthOf kind 0 0) fits, shortest kind)
+    go false fits = omega (arith, eqb-true len (lengthOf kind 0 0) fits)
 
 module _ (place : ℕ) (r : List ℕ) where
   tested : (why : Refusal) (test : Bool) (next : Reading) → Within (length r) (Refused why place) → (test ≡ false → Within (length r) (next .answer)) → Within (length r) ((why at place when test else next) .answer)
   tested why true next numbered so = numbered
   tested why false next numbered so = so refl
 
-  whole-within : (len : ℕ) (kind : Kind) (f : Figures) → 8 ≤ len → Within (length r) (wholeAt place r len kind f .answer)
+  whole-within : (len : ℕ) (kind : Kind) (f : Figures) → 4 ≤ len → Within (length r) (wholeAt place r len kind f .answer)
   unfolding wholeAt
   whole-within len kind f long =
       tested CutShort (ltb (length r) len) (known place len f (entryOf kind (fieldsAt kind r))) (omega arith, omega arith)
@@ -74,9 +61,9 @@ module _ (place : ℕ) (r : List ℕ) where
   unfolding ofKind counted
   kind-within kind =
       tested Misshapen (not (lengthFits kind (lengthAt r))) (cond (isDayEnd kind) (counted place r (lengthAt r)) (wholeAt place r (lengthAt r) kind noFigures)) (omega arith, omega arith)
-      (λ shaped. go (isDayEnd kind) (fits-eight kind (lengthAt r) (not-false _ shaped)))
+      (λ shaped. go (isDayEnd kind) (fits-head kind (lengthAt r) (not-false _ shaped)))
     where
-      go : (test : Bool) → 8 ≤ lengthAt r → Within (length r) (cond test (counted place r (lengthAt r)) (wholeAt place r (lengthAt r) kind noFigures) .answer)
+      go : (test : Bool) → 4 ≤ lengthAt r → Within (length r) (cond test (counted place r (lengthAt r)) (wholeAt place r (lengthAt r) kind noFigures) .answer)
       go true long =
           tested CutShort (ltb (length r) 8) _ (omega arith, omega arith)
           (λ there. tested Misshapen (not (countsFit (nAt r) (mAt r) (lengthAt r))) _ (omega arith, omega arith) (λ fit. whole-within (lengthAt r) DayEnd (figuresAt r) long))

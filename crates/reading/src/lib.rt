@@ -161,6 +161,8 @@ fn fields(r: &[u8], kind: Kind) -> EntryCoded
             n: number2(r, 4),
             m: number2(r, 6),
         }),
+        Kind::Pay => EntryCoded::Listed(Entry::Pay),
+        Kind::Drop => EntryCoded::Listed(Entry::Drop),
         Kind::Underlying => underlying(r),
         Kind::Contract => contract(r),
         Kind::Opening => EntryCoded::Listed(Entry::Opening(number8(r, 4))),

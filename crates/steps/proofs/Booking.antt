@@ -6,7 +6,7 @@ use Rattle.entries.specs.Entries.{kindOf}
 use Rattle.entries.specs.Table.{isDayEnd}
 use Rattle.entries.specs.declared.entry.Entry.{Entry}
 use Rattle.entries.specs.declared.entry.Figures.{Figures}
-use Rattle.entries.proofs.DayEnds.{by-day-end}
+use Rattle.entries.proofs.EachKind.{by-day-end}
 use Rattle.account.specs.Changes.{applied, decided, ending, verdictIn}
 use Rattle.account.specs.DayEnd.{dayEndVerdict, dayEnded, figuresInstalled}
 use Rattle.account.specs.Steps.{accountAfter, changeOf, outcome, refusalOf, step, tablesAfter}

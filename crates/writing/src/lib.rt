@@ -83,6 +83,8 @@ fn put_fields(buffer: &mut [u8], entry: Entry)
             put2(buffer, 4, n);
             put2(buffer, 6, m);
         }
+        Entry::Pay => {}
+        Entry::Drop => {}
         Entry::Underlying(row) => put_underlying(buffer, row),
         Entry::Contract(row) => put_contract(buffer, row),
         Entry::Opening(cash) => put8(buffer, 4, cash),

@@ -10,7 +10,7 @@ use Rattle.entries.specs.Entries.{kindOf}
 use Rattle.entries.specs.Table.{codeOf}
 use Rattle.entries.specs.declared.entry.Contract as Contract·row
 use Rattle.entries.specs.declared.entry.Entry.{Entry}
-use Rattle.entries.specs.declared.entry.Entry.the-variants.{Deposit, Withdraw, Lock, Unlock, Order, Fill, Cancel, DayEnd, Underlying, Contract, Opening}
+use Rattle.entries.specs.declared.entry.Entry.the-variants.{Deposit, Withdraw, Lock, Unlock, Order, Fill, Cancel, DayEnd, Pay, Drop, Underlying, Contract, Opening}
 use Rattle.entries.specs.declared.entry.Figures.{Figures}
 use Rattle.entries.specs.declared.entry.Underlying as Underlying·row
 use Rattle.account.specs.DayEnd.{figuresInstalled}
@@ -63,6 +63,8 @@ same-contracts t f (Order o) = refl
 same-contracts t f (Fill fill) = refl
 same-contracts t f (Cancel number) = refl
 same-contracts t f (DayEnd n m) = refl
+same-contracts t f Pay = refl
+same-contracts t f Drop = refl
 same-contracts t f (Underlying row) = refl
 same-contracts t f (Contract row) = refl
 same-contracts t f (Opening cash) = refl

@@ -15,9 +15,10 @@ use Rattle.entries.specs.declared.entry.EntryCoded.{EntryCoded}
 use Rattle.entries.specs.declared.entry.EntryCoded.the-variants as Entry·answer
 use Rattle.entries.specs.declared.entry.Figures.{Figures}
 use Rattle.entries.specs.declared.kind.Kind.{Kind}
-use Rattle.entries.specs.declared.kind.Kind.the-variants.{Deposit, Withdraw, Lock, Unlock, Order, Fill, Cancel, DayEnd, Underlying, Contract, Opening}
+use Rattle.entries.specs.declared.kind.Kind.the-variants.{DayEnd}
 use Rattle.entries.specs.declared.kind.KindCoded.{KindCoded}
 use Rattle.entries.specs.declared.kind.KindCoded.the-variants as Kind·answer
+use Rattle.entries.proofs.EachKind.{day-end-kind}
 use Rattle.reading.specs.Reading as reading
 use Rattle.reading.specs.Reading.{lengthAt, kindAt, nAt, mAt, fieldsAt, figuresAt, refused, known, wholeAt, counted, ofKind, listed, readFrom, readAt}
 use Rattle.reading.specs.declared.Answer.the-variants.{Refused}
@@ -55,20 +56,17 @@ module _ (place : ℕ) where
 
     kind-told : (kind : Kind) → number (ofKind place r kind) ≡ first (drop 2 (readingTests r (Kind·answer.Listed kind)))
     unfolding number ofKind counted
-    kind-told Deposit = other-told Deposit
-    kind-told Withdraw = other-told Withdraw
-    kind-told Lock = other-told Lock
-    kind-told Unlock = other-told Unlock
-    kind-told Order = other-told Order
-    kind-told Fill = other-told Fill
-    kind-told Cancel = other-told Cancel
-    kind-told DayEnd =
-        refused-first (not (lengthFits DayEnd (lengthAt r))) Misshapen 3 _ _ refl
-        (refused-first (ltb (length r) 8) CutShort 1 _ _ refl
-        (refused-first (not (countsFit (nAt r) (mAt r) (lengthAt r))) Misshapen 3 _ _ refl (of-any DayEnd (figuresAt r))))
-    kind-told Underlying = other-told Underlying
-    kind-told Contract = other-told Contract
-    kind-told Opening = other-told Opening
+    kind-told kind = go (isDayEnd kind) refl
+      where
+        day-end-told : number (ofKind place r DayEnd) ≡ first (drop 2 (readingTests r (Kind·answer.Listed DayEnd)))
+        day-end-told =
+            refused-first (not (lengthFits DayEnd (lengthAt r))) Misshapen 3 _ _ refl
+            (refused-first (ltb (length r) 8) CutShort 1 _ _ refl
+            (refused-first (not (countsFit (nAt r) (mAt r) (lengthAt r))) Misshapen 3 _ _ refl (of-any DayEnd (figuresAt r))))
+
+        go : (day : Bool) → isDayEnd kind ≡ day → number (ofKind place r kind) ≡ first (drop 2 (readingTests r (Kind·answer.Listed kind)))
+        go true day = rw (day-end-kind kind day) day-end-told
+        go false other = rw other (other-told kind)
 
     told : number (readFrom place r) ≡ first (readingTests r (kindAt r))
     unfolding number readFrom

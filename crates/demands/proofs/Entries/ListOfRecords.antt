@@ -5,7 +5,7 @@ use Prim.Native.Nat.{ℕ, suc, _+_, _<_}
 use native.Mathlib.Omega.{arith}
 use lib.ListN.{length, length-append}
 use Rattle.entries.specs.declared.entry.Entry.{Entry}
-use Rattle.entries.specs.declared.entry.Entry.the-variants.{Deposit, Withdraw, Lock, Unlock, Order, Fill, Cancel, DayEnd, Underlying, Contract, Opening}
+use Rattle.entries.specs.declared.entry.Entry.the-variants.{Deposit, Withdraw, Lock, Unlock, Order, Fill, Cancel, DayEnd, Pay, Drop, Underlying, Contract, Opening}
 use Rattle.entries.specs.declared.entry.Figures.{Figures}
 use Rattle.reading.specs.Reading.{readAt}
 use Rattle.reading.specs.declared.Answer.the-variants.{Found}
@@ -55,6 +55,8 @@ module _ (t : Tables) (a : Account) (f : Figures) where
   entering (Fill fill) = stepping (Fill fill)
   entering (Cancel number) = stepping (Cancel number)
   entering (DayEnd n m) = stepping (DayEnd n m)
+  entering Pay = stepping Pay
+  entering Drop = stepping Drop
   entering (Underlying row) = refl
   entering (Contract row) = refl
   entering (Opening cash) = refl

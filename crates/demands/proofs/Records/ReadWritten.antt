@@ -21,7 +21,7 @@ use Rattle.entries.specs.declared.entry.EntryCoded.{EntryCoded}
 use Rattle.entries.specs.declared.entry.EntryCoded.the-variants.{Listed, Unlisted}
 use Rattle.entries.specs.declared.entry.Figures.{Figures}
 use Rattle.entries.specs.declared.kind.Kind.{Kind}
-use Rattle.entries.specs.declared.kind.Kind.the-variants.{Deposit, Withdraw, Lock, Unlock, Order, Fill, Cancel, DayEnd, Underlying, Contract, Opening}
+use Rattle.entries.specs.declared.kind.Kind.the-variants.{Deposit, Withdraw, Lock, Unlock, Order, Fill, Cancel, DayEnd, Pay, Drop, Underlying, Contract, Opening}
 use Rattle.entries.specs.declared.kind.KindCoded.{KindCoded}
 use Rattle.entries.specs.declared.kind.KindCoded.the-variants as Kind·answer
 use Rattle.entries.proofs.Runs.{length-numbers}
@@ -51,6 +51,8 @@ says Order r entry e = let vs = fieldsAt Order r in let (kind, c, e′) = by-wor
 says Fill r entry e = same e
 says Cancel r entry e = same e
 says DayEnd r entry e = same e
+says Pay r entry e = same e
+says Drop r entry e = same e
 says Underlying r entry e = let vs = fieldsAt Underlying r in let (class, c, e′) = by-word classCode (underlyingOf vs) classes (vs ! 0) e in rw c at (same e′)
 says Contract r entry e = let vs = fieldsAt Contract r in let (right, c, e′) = by-word rightCode (contractOf vs) rights (vs ! 1) e in rw c at (same e′)
 says Opening r entry e = same e

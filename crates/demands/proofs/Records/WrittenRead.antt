@@ -1,69 +1,41 @@
 -- A record reads back as the entry that was written: the numbers of its head are packed, so they read back, and they pass reading's tests; so do a day end's figures behind them. Hence bytes tell entries apart: reading has one answer, and it says where the record ends.
-use mathlib.Core.Path.{_≡_, refl, sym, ap, _∙_, subst}
-use mathlib.Core.Bool.{Bool, true, false, cond}
+use mathlib.Core.Path.{_≡_, refl, sym, ap, _∙_}
+use mathlib.Core.Bool.{true, false, cond}
 use mathlib.Core.List.{List, [], _∷_, _++_, append-assoc}
 use Prim.Native.Nat.{ℕ, zero, suc, _+_, _^_, _≤_, _<_}
 use native.Mathlib.Omega.{arith}
-use borrow.Author.Tests.{le-ltb, eq-eqb, eqb-true, not-false}
+use borrow.Author.Tests.{le-ltb, eq-eqb, not-false}
 use lib.Dec.{ltb, eqb, lit<, lit≤}
 use lib.ListN.{length, take, drop, replicate, length-append, replicate-append-replicate}
 use lib.Seq.{drop-at, drop-append-seam, length-take-le}
-use Rattle.terms.specs.Codes.{classCode, rightCode, kindCode}
-use Rattle.terms.proofs.Codes.{class-read, right-read, kind-read}
-use Rattle.entries.specs.Entries.{kindOf, fieldsIn, orderOf, underlyingOf, contractOf, entryOf, figuresIn, figuresFrom, noFigures}
+use Rattle.entries.specs.Entries.{kindOf, fieldsIn, figuresIn, figuresFrom, noFigures}
 use Rattle.entries.specs.Numbers.{numbersAt, packed, total}
-use Rattle.entries.specs.Table.{codeOf, kindCoded, fieldsOf, isDayEnd, figuresOf, lengthFits, countsFit, countsAllowed}
+use Rattle.entries.specs.Table.{codeOf, fieldsOf, isDayEnd, figuresOf, lengthFits, countsFit, countsAllowed}
 use Rattle.entries.specs.declared.entry.Entry.{Entry}
-use Rattle.entries.specs.declared.entry.Entry.the-variants.{Deposit, Withdraw, Lock, Unlock, Order, Fill, Cancel, DayEnd, Underlying, Contract, Opening}
-use Rattle.entries.specs.declared.entry.EntryCoded.the-variants.{Listed, Unlisted}
+use Rattle.entries.specs.declared.entry.Entry.the-variants.{DayEnd}
 use Rattle.entries.specs.declared.entry.Figures.{Figures}
 use Rattle.entries.specs.declared.kind.Kind.{Kind}
 use Rattle.entries.specs.declared.kind.Kind.the-variants as Kind·of
 use Rattle.entries.specs.declared.kind.KindCoded.the-variants as Kind·answer
+use Rattle.entries.proofs.EachKind.{by-day-end, each-kind, kind-said, said}
 use Rattle.entries.proofs.Limits.{counts-inside}
 use Rattle.entries.proofs.Runs.{total-fours, length-packed}
 use Rattle.reading.specs.Reading.{lengthAt, kindAt, nAt, mAt, fieldsAt, wholeAt, counted, ofKind, readFrom, readAt}
 use Rattle.reading.specs.declared.Answer.the-variants.{Found}
 use Rattle.reading.specs.declared.Reading.{Reading}
-use Rattle.reading.proofs.Words.{class-word, right-word, kind-word}
 use Rattle.writing.specs.Writing.{nOf, mOf, lengthFor, headOf, recordOf, countsBarred}
 use Rattle.demands.specs.Records.{Below, Fit, Typed, figuresKept}
 use Rattle.demands.proofs.Records.DayEndLengths.{day-end-lengths}
 use Rattle.demands.proofs.Records.Packing.{packed-read, packed-length}
 use Rattle.demands.proofs.Records.ReadWritten.{figures-kept, found}
 
--- an entry's kind and fields say the entry
-said : (entry : Entry) → entryOf (kindOf entry) (fieldsIn entry) ≡ Listed entry
-said (Deposit amount) = refl
-said (Withdraw amount) = refl
-said (Lock underlying units) = refl
-said (Unlock underlying units) = refl
-said (Order o) = kind-word (orderOf (fieldsIn (Order o))) Unlisted (kindCode (o .kind)) (o .kind) (kind-read (o .kind))
-said (Fill fill) = refl
-said (Cancel number) = refl
-said (DayEnd n m) = refl
-said (Underlying u) = class-word (underlyingOf (fieldsIn (Underlying u))) Unlisted (classCode (u .class)) (u .class) (class-read (u .class))
-said (Contract c) = right-word (contractOf (fieldsIn (Contract c))) Unlisted (rightCode (c .right)) (c .right) (right-read (c .right))
-said (Opening cash) = refl
-
--- a kind's row of the table: its code says the kind and fits its width, and its head is short
+-- a kind's code fits its width, and its head is short
 record Row (kind : Kind) : Type 0 where
-  says : kindCoded (codeOf kind) ≡ Kind·answer.Listed kind
   code : codeOf kind < 256 ^ 2
   short : total (2 ∷ 2 ∷ fieldsOf kind) ≤ 24
 
 row : (kind : Kind) → Row kind
-row Kind·of.Deposit = record { says = refl; code = lit< _; short = lit≤ _ }
-row Kind·of.Withdraw = record { says = refl; code = lit< _; short = lit≤ _ }
-row Kind·of.Lock = record { says = refl; code = lit< _; short = lit≤ _ }
-row Kind·of.Unlock = record { says = refl; code = lit< _; short = lit≤ _ }
-row Kind·of.Order = record { says = refl; code = lit< _; short = lit≤ _ }
-row Kind·of.Fill = record { says = refl; code = lit< _; short = lit≤ _ }
-row Kind·of.Cancel = record { says = refl; code = lit< _; short = lit≤ _ }
-row Kind·of.DayEnd = record { says = refl; code = lit< _; short = lit≤ _ }
-row Kind·of.Underlying = record { says = refl; code = lit< _; short = lit≤ _ }
-row Kind·of.Contract = record { says = refl; code = lit< _; short = lit≤ _ }
-row Kind·of.Opening = record { says = refl; code = lit< _; short = lit≤ _ }
+row = each-kind Row (search (lit<, lit≤))
 
 -- a record's head, and the bytes that follow it
 abbrev widths : Entry → List ℕ
@@ -87,13 +59,13 @@ module _ (entry : Entry) (place : ℕ) (r : List ℕ) (begins : Begins entry r) 
   whole f =
       let uncut : ltb (length r) (lengthFor entry) ≡ false = le-ltb _ _ (begins .enough) in
       let fields : fieldsAt (kindOf entry) r ≡ fieldsIn entry = cc in
-      simp (uncut, fields, said)
+      simp (uncut, fields, said entry .says)
 
   answered : readFrom place r ≡ ofKind place r (kindOf entry)
   unfolding readFrom
   answered =
       let uncut : ltb (length r) 4 ≡ false = le-ltb (length r) 4 (omega arith) in
-      let kind : kindAt r ≡ Kind·answer.Listed (kindOf entry) = cc (row (kindOf entry) .says) in
+      let kind : kindAt r ≡ Kind·answer.Listed (kindOf entry) = cc (kind-said (kindOf entry)) in
       simp (uncut, kind)
 
 -- what a day end has for one reason and any other entry for another
@@ -154,22 +126,12 @@ module _ (n m : ℕ) (f : Figures) (typed : Typed (DayEnd n m) f) (allowed : cou
     reads = day-end-reads;
   }
 
--- the kind that has the day end's code is the day end, and its two fields are the counts
-day-end : (entry : Entry) → isDayEnd (kindOf entry) ≡ true → DayEnd (nOf entry) (mOf entry) ≡ entry
-day-end entry day =
-    let code : codeOf (kindOf entry) ≡ 8 = eqb-true _ 8 day in
-    let kind : kindOf entry ≡ Kind·of.DayEnd = cc (row (kindOf entry) .says) in
-    cc (said entry)
-
 readable : (entry : Entry) (f : Figures) → Typed entry f → countsBarred entry ≡ false → Readable entry f
-readable entry f typed unbarred = go (isDayEnd (kindOf entry)) refl
-  where
-    go : (day : Bool) → isDayEnd (kindOf entry) ≡ day → Readable entry f
-    go true day =
-        let typed' : Typed (DayEnd (nOf entry) (mOf entry)) f = rw (day-end entry day) typed in
-        let allowed : countsAllowed (nOf entry) (mOf entry) ≡ true = not-false _ (subst (λ (e : Entry). countsBarred e ≡ false) (sym (day-end entry day)) unbarred) in
-        rw (day-end entry day) at (day-end-readable (nOf entry) (mOf entry) f typed' allowed)
-    go false other = other-readable entry f other
+readable entry f =
+    by-day-end (λ entry. Typed entry f → countsBarred entry ≡ false → Readable entry f)
+    (λ n m typed unbarred. day-end-readable n m f typed (not-false _ unbarred))
+    (λ entry other typed unbarred. other-readable entry f other)
+    entry
 
 module _ (entry : Entry) (f : Figures) (typed : Typed entry f) (unbarred : countsBarred entry ≡ false) where
   head-fit : Fit (widths entry) (values entry)

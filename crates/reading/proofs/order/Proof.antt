@@ -8,7 +8,7 @@ use Rattle.entries.specs.declared.entry.Entry.the-variants as Entry·of
 use Rattle.entries.specs.declared.entry.EntryCoded.the-variants.{Listed, Unlisted}
 use Rattle.entries.specs.declared.kind.Kind.the-variants.{Order}
 use Rattle.reading.specs.Reading.{fieldsAt}
-use Rattle.reading.proofs.Words.{says-at, kind-word, kind-none}
+use Rattle.entries.proofs.Words.{says-at, kind-word, kind-none}
 use Rattle.reading.proofs.order.Statement.{statement}
 use Rattle.reading.proofs.order.Tie as tie
 

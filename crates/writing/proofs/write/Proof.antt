@@ -7,9 +7,11 @@ use native.Mathlib.Nat.{le-trans, le-of-eq, lt-of-le-of-lt, zero-add, add-zero}
 use native.Mathlib.Omega.{arith}
 use borrow.Author.Needs.{needs}
 use borrow.Author.Tests.{lt-ltb, le-ltb, not-true, not-false}
+use denote.Enum.Declared.{tagOf}
 use lib.Dec.{ltb}
 use lib.ListN.{length, drop, length-append, length-take, length-replicate}
 use lib.Seq.{sets, sets-eq}
+use types.Run.{OneOf, miss}
 use Rattle.terms.specs.declared.refusal.Refusal.the-variants.{Misshapen, BufferTooShort}
 use Rattle.entries.specs.Entries.{kindOf, fieldsIn, figuresIn}
 use Rattle.entries.specs.Numbers.{packed, total}
@@ -19,12 +21,13 @@ use Rattle.entries.specs.declared.entry.Entry.the-variants.{DayEnd}
 use Rattle.entries.specs.declared.entry.Figures.{Figures}
 use Rattle.entries.specs.declared.kind.Kind.{Kind}
 use Rattle.entries.specs.declared.kind.Kind.the-variants as Kind·of
+use Rattle.entries.proofs.entry.Entry as Cases
+use Rattle.entries.proofs.EachKind.{by-day-end, said}
 use Rattle.entries.proofs.Halves.{sets-append}
-use Rattle.entries.proofs.Limits.{counts-inside, as-many}
+use Rattle.entries.proofs.Limits.{counts-inside}
 use Rattle.entries.proofs.Runs.{total-fours, length-packed}
 use Rattle.writing.specs.Writing.{nOf, mOf, lengthFor, headOf, recordOf, countsBarred, writtenFor}
 use Rattle.writing.specs.declared.Written.the-variants.{Bytes, Refused}
-use Rattle.writing.proofs.Others.{no-day-end}
 use Rattle.writing.proofs.write.Statement.{statement}
 use Rattle.writing.proofs.write.Tie as tie
 
@@ -46,7 +49,7 @@ module _ (entry : Entry) (size len : ℕ) (clear : countsBarred entry ≡ false)
   fits h = rw (le-ltb size len h) at judged
 
 length-head : (entry : Entry) (size : ℕ) → length (packed (2 ∷ 2 ∷ fieldsOf (kindOf entry)) (size ∷ codeOf (kindOf entry) ∷ fieldsIn entry)) ≡ total (2 ∷ 2 ∷ fieldsOf (kindOf entry))
-length-head entry size = length-packed (2 ∷ 2 ∷ fieldsOf (kindOf entry)) (size ∷ codeOf (kindOf entry) ∷ fieldsIn entry) (ap (λ (k : ℕ). suc (suc k)) (as-many entry))
+length-head entry size = length-packed (2 ∷ 2 ∷ fieldsOf (kindOf entry)) (size ∷ codeOf (kindOf entry) ∷ fieldsIn entry) (ap (λ (k : ℕ). suc (suc k)) (said entry .as-many))
 
 module _ (entry : Entry) (other : isDayEnd (kindOf entry) ≡ false) (len : ℕ) (is : len ≡ lengthOf (kindOf entry) 0 0) where
   clear-other : countsBarred entry ≡ false
@@ -111,6 +114,16 @@ settled start = search needs
 
 closed : (start : tie.Start) → length (start .args .figures .closes) ≡ 8
 closed start = search needs
+
+-- the cases in the order of the enum, without the eighth: an entry of these is no day end
+abbrev others : List ℕ
+others = 0 ∷ 1 ∷ 2 ∷ 3 ∷ 4 ∷ 5 ∷ 6 ∷ 8 ∷ 9 ∷ 10 ∷ 11 ∷ 12 ∷ []
+
+no-day-end : (entry : Entry) → OneOf others (tagOf Cases.the-type entry) → isDayEnd (kindOf entry) ≡ false
+no-day-end =
+    by-day-end (λ entry. OneOf others (tagOf Cases.the-type entry) → isDayEnd (kindOf entry) ≡ false)
+    (λ n m among. absurd (miss others 7 tt among))
+    (λ entry other among. other)
 
 -- what is known where the entry is no day end: the length asked for is that of its kind
 module _ (c : tie.After-length) where
