@@ -109,7 +109,6 @@ module _ (t : Tables) (a : Account) (o : Order) (h : Held t a) (p : Passed t a o
       }
 
 module _ (t : Tables) (a : Account) (o : Order) (s : Sound t a) (p : Passed t a o) where
-
   pub positions-after : after t a o .positions ≡ a .positions
   unfolding applied orderChange
   positions-after = set-out (a .positions) 64 noPosition (omega (arith, s .positionRows))

@@ -80,18 +80,24 @@ module _ (t : Tables) (a : Account) (s : Sound t a) where
       let total = a .sheet .cash + a .sheet .premium + amount in
       let after-range = went-on (amountAllowed amount) OutOfRange _ e .1 in
       let ceiling = went-on (total ∈ rangeOf Money) CeilingPassed _ after-range .0 in
-      money-sound _ _ (record { ceiling = omega (arith, inside total (rangeOf Money) ceiling .1); held = deposit-held (sound-held s) amount; waiting = s .waiting; margin = refl })
+      let change = depositChange (a .sheet) (a .last) amount in
+      money-sound (change .sheet) (change .waiting) (record { ceiling = omega (arith, inside total (rangeOf Money) ceiling .1); held = deposit-held (sound-held s) amount; waiting = s .waiting; margin = refl })
 
   pub withdraw-sound : (amount : ℕ) → withdrawVerdict (a .sheet) (a .waiting) amount ≡ Accepted → Sound t (applied a (withdrawChange (a .sheet) (a .last) amount))
   unfolding withdrawChange applied
   withdraw-sound amount e =
       let passed = asked a amount e in
-      money-sound _ _ (record { ceiling = s .ceiling; held = withdraw-held (sound-held s) amount passed; waiting = passed .most; margin = refl })
+      let change = withdrawChange (a .sheet) (a .last) amount in
+      money-sound (change .sheet) (change .waiting) (record { ceiling = s .ceiling; held = withdraw-held (sound-held s) amount passed; waiting = passed .most; margin = refl })
 
   pub pay-sound : Sound t (applied a (payChange (a .sheet) (a .last) (a .waiting)))
   unfolding payChange applied
-  pay-sound = money-sound _ _ (record { ceiling = omega (arith, s .ceiling); held = pay-held (sound-held s); waiting = omega arith; margin = refl })
+  pay-sound =
+      let change = payChange (a .sheet) (a .last) (a .waiting) in
+      money-sound (change .sheet) (change .waiting) (record { ceiling = omega (arith, s .ceiling); held = pay-held (sound-held s); waiting = omega arith; margin = refl })
 
   pub drop-sound : Sound t (applied a (dropChange (a .sheet) (a .last) (a .waiting)))
   unfolding dropChange applied
-  drop-sound = money-sound _ _ (record { ceiling = s .ceiling; held = drop-held (sound-held s); waiting = omega arith; margin = refl })
+  drop-sound =
+      let change = dropChange (a .sheet) (a .last) (a .waiting) in
+      money-sound (change .sheet) (change .waiting) (record { ceiling = s .ceiling; held = drop-held (sound-held s); waiting = omega arith; margin = refl })
