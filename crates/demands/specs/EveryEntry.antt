@@ -24,7 +24,7 @@ use Rattle.desk.specs.Runs.{availableIn}
 -- "margins, holds, limits": an account on its tables as document 01 has it
 pub record AsRuled (t : Tables) (a : Account) : Type 0 where
   pub margin : a .sheet .margin ≡ marginIn t a  -- the sum of short x margin of one contract, at the figures in force
-  pub holds : a .sheet .holds ≡ holdsIn t a  -- the sum over the resting orders
+  pub holds : a .sheet .holds ≡ holdsIn t a  -- the sum over the resting orders, and what waits
   pub rights : (u : ℕ) → u < t .m → rightsIn t a u ≤ underlying t u .rights  -- long + resting buy opens
   pub total : (u : ℕ) → u < t .m → totalIn t a u ≤ underlying t u .total  -- long + short + covered + resting opens
   pub daily : (u : ℕ) → u < t .m → holding a u .bought .0 ≤ underlying t u .daily  -- today's buy opens

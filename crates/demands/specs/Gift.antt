@@ -38,6 +38,7 @@ abbrev pub richer : ℕ → Account → Account
 richer X a =
     record {
       sheet = richerSheet X (a .sheet);
+      waiting = a .waiting;
       positions = a .positions;
       orders = a .orders;
       holdings = a .holdings;
@@ -48,10 +49,11 @@ richer X a =
 abbrev pub RoomFor : ℕ → Account → Type 0
 RoomFor X a = a .sheet .cash + a .sheet .premium + X ≤ 1_000_000_000_000_000
 
--- "both hold the same positions, orders, margin and locked units, the second exactly X more available"
+-- "both hold the same positions, orders, margin and locked units, the second exactly X more available"; "the waiting amounts are equal too" (#101)
 pub record XMore (X : ℕ) (first second : Account) : Type 0 where
   pub positions : second .positions ≡ first .positions
   pub orders : second .orders ≡ first .orders
+  pub waiting : second .waiting ≡ first .waiting
   pub margin : second .sheet .margin ≡ first .sheet .margin
   pub locked : (u : ℕ) → holding second u .locked ≡ holding first u .locked
   pub available : availableOf (second .sheet) ≡ availableOf (first .sheet) +ℤ pos X

@@ -58,11 +58,11 @@ writingTests entry size =
     ∷ (ltb size (lengthFor entry), 17)  -- "then 17"
     ∷ []
 
--- "a book is kinds 16, then 17, then one 18, then kinds 1 to 8": what is in its place at a stage, its own kinds and that which ends it
+-- "a book is kinds 16, then 17, then one 18, then kinds 1 to 8", and 9 and 10 (#101): what is in its place at a stage, its own kinds and that which ends it
 abbrev pub due : Stage → List ℕ
 due Underlyings = 16 ∷ 17 ∷ []
 due Contracts = 17 ∷ 18 ∷ []
-due Entries = 1 ∷ 2 ∷ 3 ∷ 4 ∷ 5 ∷ 6 ∷ 7 ∷ 8 ∷ []
+due Entries = 1 ∷ 2 ∷ 3 ∷ 4 ∷ 5 ∷ 6 ∷ 7 ∷ 8 ∷ 9 ∷ 10 ∷ []
 
 -- the values of an underlying's row, and of a contract's beside m underlyings
 abbrev pub underlyingTests : Underlying → List (Bool × ℕ)

@@ -3,7 +3,7 @@ use mathlib.Core.List.{List, [], _∷_}
 use Rattle.terms.specs.Kinds.{movesOf, opensOf, buysOf}
 use Rattle.rules.specs.Count.{forCount}
 use Rattle.entries.specs.declared.entry.Entry.{Entry}
-use Rattle.entries.specs.declared.entry.Entry.the-variants.{Deposit, Withdraw, Lock, Unlock, Order, Fill, Cancel, DayEnd, Underlying, Contract, Opening}
+use Rattle.entries.specs.declared.entry.Entry.the-variants.{Deposit, Withdraw, Lock, Unlock, Order, Fill, Cancel, DayEnd, Pay, Drop, Underlying, Contract, Opening}
 use Rattle.entries.specs.declared.entry.Figures.{Figures}
 use Rattle.entries.specs.declared.entry.Fill as Of
 use Rattle.account.specs.DayEnd.{figuresInstalled, positionsNetted}
@@ -22,10 +22,10 @@ fillPosts f fill =
     let kind = kindOf (f .order) in
     fillPostings (movesOf kind) (buysOf kind) (opensOf kind) (forCount (fill .quantity) (f .hold)) (paid f fill) (forCount (fill .quantity) (f .margin))
 
--- cash in and out; an order's hold, at its price or margin; the rest of a cancelled order's hold; a day end with its margin, at the new figures over the netted positions; locks move units and no money (The account; Orders and fills)
+-- cash in; a payout's hold, which is freed when it is paid out of cash or dropped; an order's hold, at its price or margin; the rest of a cancelled order's hold; a day end with its margin, at the new figures over the netted positions, and what waits still held; locks move units and no money (The account; Orders and fills; #101)
 unfoldable pub postingsOf : Tables → Account → Entry → Figures → List Posting
 postingsOf t a (Deposit amount) f = Post.CashIn amount ∷ []
-postingsOf t a (Withdraw amount) f = Post.CashOut amount ∷ []
+postingsOf t a (Withdraw amount) f = Post.HoldTaken amount ∷ []
 postingsOf t a (Lock u units) f = []
 postingsOf t a (Unlock u units) f = []
 postingsOf t a (Order o) f = Post.HoldTaken (forCount (o .quantity) (holdOne t (o .kind) (o .contract) (o .price))) ∷ []
@@ -33,7 +33,9 @@ postingsOf t a (Fill fill) f = fillPosts (named t a (fill .number)) fill
 postingsOf t a (Cancel number) f =
     let order = named t a number in
     Post.HoldFreed (forCount (order .order .left .0) (order .hold)) ∷ []
-postingsOf t a (DayEnd n m) f = Post.DayEnd (marginIn (figuresInstalled t f) (positionsNetted a)) ∷ []
+postingsOf t a (DayEnd n m) f = Post.DayEnd (marginIn (figuresInstalled t f) (positionsNetted a)) (a .waiting) ∷ []
+postingsOf t a Pay f = Post.HoldFreed (a .waiting) ∷ Post.CashOut (a .waiting) ∷ []
+postingsOf t a Drop f = Post.HoldFreed (a .waiting) ∷ []
 postingsOf t a (Underlying row) f = []
 postingsOf t a (Contract row) f = []
 postingsOf t a (Opening cash) f = []

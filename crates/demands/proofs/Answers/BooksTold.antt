@@ -1,16 +1,16 @@
 -- The sentences about the order of a book hold of its definitions: a record is judged by its stage first, and only an accepted one moves it.
 use mathlib.Core.Path.{_≡_, refl, sym, ap, subst, _∙_}
-use mathlib.Core.Bool.{Bool, true, false, and-false, true≢false}
-use Prim.Native.Nat.{ℕ, _≤_}
+use mathlib.Core.Bool.{Bool, true, false, cond, and-false, true≢false}
+use Prim.Native.Nat.{ℕ, _≤_, _<_}
 use native.Mathlib.Omega.{arith}
 use borrow.Author.Tests.{le-ltb}
 use Rattle.terms.specs.declared.refusal.Refusal.{Refusal}
 use Rattle.terms.specs.declared.refusal.Refusal.the-variants.{OutOfPlace, OutOfRange}
 use Rattle.entries.specs.Entries.{kindOf}
-use Rattle.entries.specs.Table.{codeOf}
+use Rattle.entries.specs.Table.{codeOf, isDayEnd}
 use Rattle.entries.specs.declared.entry.Contract as Contract·row
 use Rattle.entries.specs.declared.entry.Entry.{Entry}
-use Rattle.entries.specs.declared.entry.Entry.the-variants.{Deposit, Withdraw, Lock, Unlock, Order, Fill, Cancel, DayEnd, Pay, Drop, Underlying, Contract, Opening}
+use Rattle.entries.specs.declared.entry.Entry.the-variants.{Underlying, Contract, Opening}
 use Rattle.entries.specs.declared.entry.Figures.{Figures}
 use Rattle.entries.specs.declared.entry.Underlying as Underlying·row
 use Rattle.account.specs.DayEnd.{figuresInstalled}
@@ -55,19 +55,11 @@ module _ (b : Book) (f : Figures) where
 -- an accepted entry leaves as many contracts as there were
 same-contracts : (t : Tables) (f : Figures) (entry : Entry) → tablesAfter t entry f .n ≡ t .n
 unfolding tablesAfter figuresInstalled
-same-contracts t f (Deposit amount) = refl
-same-contracts t f (Withdraw amount) = refl
-same-contracts t f (Lock u units) = refl
-same-contracts t f (Unlock u units) = refl
-same-contracts t f (Order o) = refl
-same-contracts t f (Fill fill) = refl
-same-contracts t f (Cancel number) = refl
-same-contracts t f (DayEnd n m) = refl
-same-contracts t f Pay = refl
-same-contracts t f Drop = refl
-same-contracts t f (Underlying row) = refl
-same-contracts t f (Contract row) = refl
-same-contracts t f (Opening cash) = refl
+same-contracts t f entry = go (isDayEnd (kindOf entry))
+  where
+    go : (ends : Bool) → cond ends (figuresInstalled t f) t .n ≡ t .n
+    go true = refl
+    go false = refl
 
 abbrev waitsForRows : Stage → Bool
 waitsForRows Underlyings = true
@@ -103,7 +95,7 @@ module _ (b : Book) (so : Staged b) where
       go Entries e = refl
 
   module _ (f : Figures) where
-    entry-staged : (entry : Entry) → codeOf (kindOf entry) ≤ 8 → inPlace (b .stage) (codeOf (kindOf entry)) ≡ true → Staged (withEntry b entry f)
+    entry-staged : (entry : Entry) → codeOf (kindOf entry) < 16 → inPlace (b .stage) (codeOf (kindOf entry)) ≡ true → Staged (withEntry b entry f)
     entry-staged entry few placed =
         past (withEntry b entry f) refl (subst (λ (n : ℕ). 1 ≤ n) (sym (same-contracts (b .tables) f entry)) (had-one (ap waitsForRows (open-stage (b .stage) (codeOf (kindOf entry)) few placed))))
 

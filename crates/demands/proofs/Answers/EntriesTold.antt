@@ -15,7 +15,7 @@ use Rattle.entries.specs.declared.entry.Entry.the-variants as Entry·of
 use Rattle.entries.specs.declared.entry.Figures.{Figures}
 use Rattle.entries.specs.declared.entry.Underlying.{Underlying}
 use Rattle.entries.specs.declared.kind.Kind.{Kind}
-use Rattle.entries.specs.declared.kind.Kind.the-variants as Kind·of
+use Rattle.entries.proofs.EachKind.{each-kind}
 use Rattle.account.specs.Checks.{member}
 use Rattle.account.specs.DayEnd.{every}
 use Rattle.account.specs.InOrder.{entryTests, first}
@@ -43,18 +43,11 @@ each-stage P stages Contracts = stages .1
 each-stage P stages Entries = stages .2
 
 -- the kinds in their place are those due
-placed : (kind : Kind) (stage : Stage) → not (member (codeOf kind) (due stage)) ≡ not (inPlace stage (codeOf kind))
-placed Kind·of.Deposit = each-stage _ (refl, refl, refl)
-placed Kind·of.Withdraw = each-stage _ (refl, refl, refl)
-placed Kind·of.Lock = each-stage _ (refl, refl, refl)
-placed Kind·of.Unlock = each-stage _ (refl, refl, refl)
-placed Kind·of.Order = each-stage _ (refl, refl, refl)
-placed Kind·of.Fill = each-stage _ (refl, refl, refl)
-placed Kind·of.Cancel = each-stage _ (refl, refl, refl)
-placed Kind·of.DayEnd = each-stage _ (refl, refl, refl)
-placed Kind·of.Underlying = each-stage _ (refl, refl, refl)
-placed Kind·of.Contract = each-stage _ (refl, refl, refl)
-placed Kind·of.Opening = each-stage _ (refl, refl, refl)
+abbrev Same : Kind → Stage → Type 0
+Same kind stage = not (member (codeOf kind) (due stage)) ≡ not (inPlace stage (codeOf kind))
+
+placed : (kind : Kind) (stage : Stage) → Same kind stage
+placed kind = each-stage (Same kind) (each-kind (λ kind. Same kind Underlyings × Same kind Contracts × Same kind Entries) search kind)
 
 module _ (row : Underlying) where
   underlying-adds : {tests : List (Bool × ℕ)} → Adds (underlyingAllowed row) OutOfRange tests (underlyingTests row ++ tests)
@@ -124,6 +117,8 @@ module _ (b : Book) (f : Figures) where
   tests-among (Entry·of.Fill fill) = search
   tests-among (Entry·of.Cancel number) = search
   tests-among (Entry·of.DayEnd n m) = search
+  tests-among Entry·of.Pay = search
+  tests-among Entry·of.Drop = search
   tests-among (Entry·of.Underlying row) = search
   tests-among (Entry·of.Contract row) = search
   tests-among (Entry·of.Opening cash) = search

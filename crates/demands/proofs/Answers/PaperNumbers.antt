@@ -5,7 +5,7 @@ use Prim.Native.Nat.{ℕ, _≤_}
 use native.Mathlib.Omega.{arith}
 use Rattle.terms.specs.Refusals.{numberOf}
 use Rattle.terms.specs.declared.refusal.Refusal.{Refusal}
-use Rattle.terms.specs.declared.refusal.Refusal.the-variants.{CutShort, UnknownKind, Misshapen, OutOfRange, OutOfPlace, StaleNumber, NoSuchOrder, OrdersFull, PositionTooSmall, RightsPassed, TotalPassed, DailyPassed, SpareTooFew, AvailablePassed, CeilingPassed, FillBarred, BufferTooShort, CashBelowZero}
+use Rattle.terms.specs.declared.refusal.Refusal.the-variants.{CutShort, UnknownKind, Misshapen, OutOfRange, OutOfPlace, StaleNumber, NoSuchOrder, OrdersFull, PositionTooSmall, RightsPassed, TotalPassed, DailyPassed, SpareTooFew, AvailablePassed, CeilingPassed, FillBarred, BufferTooShort, CashBelowZero, NothingWaiting, AlreadyWaiting}
 use Rattle.account.specs.InOrder.{first}
 use Rattle.demands.specs.Each.{Each, OneOf}
 
@@ -28,6 +28,8 @@ refusal-number CeilingPassed = omega arith
 refusal-number FillBarred = omega arith
 refusal-number BufferTooShort = omega arith
 refusal-number CashBelowZero = omega arith
+refusal-number NothingWaiting = omega arith
+refusal-number AlreadyWaiting = omega arith
 
 module _ (numbers : List ℕ) where
   pub chosen : (test : Bool) (x y : ℕ) → OneOf numbers x → OneOf numbers y → OneOf numbers (cond test x y)

@@ -5,7 +5,7 @@ use native.Mathlib.Omega.{arith}
 use Rattle.terms.specs.Kinds.{movesOf, opensOf, buysOf}
 use Rattle.rules.specs.Count.{forCount}
 use Rattle.entries.specs.declared.entry.Entry.{Entry}
-use Rattle.entries.specs.declared.entry.Entry.the-variants.{Deposit, Withdraw, Lock, Unlock, Order, Fill, Cancel, DayEnd, Underlying, Contract, Opening}
+use Rattle.entries.specs.declared.entry.Entry.the-variants.{Deposit, Withdraw, Lock, Unlock, Order, Fill, Cancel, DayEnd, Pay, Drop, Underlying, Contract, Opening}
 use Rattle.entries.specs.declared.entry.Figures.{Figures}
 use Rattle.account.specs.Changes.{applied}
 use Rattle.account.specs.DayEnd.{ordersCancelled, positionsNetted, marginAfresh, premiumJoined, dailyZero, unitsReleased, dayEnded}
@@ -14,7 +14,7 @@ use Rattle.account.specs.Locks.{lockChange, unlockChange}
 use Rattle.account.specs.Money.{kindOf, marginIn}
 use Rattle.account.specs.Orders.{orderChange, withHold}
 use Rattle.account.specs.Steps.{accountAfter, outcome, refusalOf, step, tablesAfter}
-use Rattle.account.specs.Transfers.{depositChange, withdrawChange}
+use Rattle.account.specs.Transfers.{depositChange, withdrawChange, payChange, dropChange}
 use Rattle.account.specs.declared.account.Account.{Account}
 use Rattle.account.specs.declared.judged.Named.{Named}
 use Rattle.account.specs.declared.judged.Outcome.{Outcome}
@@ -29,7 +29,7 @@ use Rattle.demands.specs.Postings.{postingsOf}
 
 module _ (t : Tables) (a : Account) (f : Figures) where
   entry-posted : (entry : Entry) → refusalOf t a entry f ≡ Accepted → accountAfter t a entry f .sheet ≡ allPosted (a .sheet) (postingsOf t a entry f)
-  unfolding refusalOf accountAfter postingsOf applied depositChange withdrawChange lockChange unlockChange orderChange fillChange cancelChange named dayEnded unitsReleased dailyZero premiumJoined marginAfresh positionsNetted ordersCancelled marginIn
+  unfolding refusalOf accountAfter postingsOf applied depositChange withdrawChange payChange dropChange lockChange unlockChange orderChange fillChange cancelChange named dayEnded unitsReleased dailyZero premiumJoined marginAfresh positionsNetted ordersCancelled marginIn
   entry-posted (Deposit amount) accepted = refl
   entry-posted (Withdraw amount) accepted = refl
   entry-posted (Lock u units) accepted = refl
@@ -41,6 +41,8 @@ module _ (t : Tables) (a : Account) (f : Figures) where
       sym (fill-posted (a .sheet) (forCount q (order .hold)) (paid order fill) (forCount q (order .margin)) (movesOf kind) (buysOf kind) (opensOf kind))
   entry-posted (Cancel number) accepted = refl
   entry-posted (DayEnd n m) accepted = refl
+  entry-posted Pay accepted = refl
+  entry-posted Drop accepted = refl
   entry-posted (Underlying row) accepted = refl
   entry-posted (Contract row) accepted = refl
   entry-posted (Opening cash) accepted = refl

@@ -18,6 +18,7 @@ use Rattle.entries.specs.declared.entry.Entry.{Entry}
 use Rattle.entries.specs.declared.entry.Entry.the-variants.{Underlying, Contract, Opening}
 use Rattle.entries.specs.declared.entry.Figures.{Figures}
 use Rattle.entries.specs.declared.entry.Underlying as Underlyings·of
+use Rattle.account.specs.Opening.{opening}
 use Rattle.account.specs.Rows.{noUnderlying}
 use Rattle.account.specs.Sound.{underlyingAllowed}
 use Rattle.account.specs.Steps.{accountAfter, refusalOf}
@@ -25,7 +26,10 @@ use Rattle.account.specs.Verdicts.{_else_then_}
 use Rattle.account.specs.declared.account.Account.{Account}
 use Rattle.account.specs.declared.judged.Verdict.{Verdict}
 use Rattle.account.specs.declared.judged.Verdict.the-variants.{Accepted}
+use Rattle.account.proofs.Held.{Held}
+use Rattle.account.proofs.OpeningSound.{opening-held}
 use Rattle.account.proofs.Passed.{went-on}
+use Rattle.account.proofs.StepHeld.{accepted-held}
 use Rattle.set_up.specs.Stages.{Entered, bookAfter, contractVerdict, entered, enteredAs, inPlace, recordVerdict, underlyingVerdict, withEntry}
 use Rattle.set_up.specs.declared.stages.Book.{Book}
 use Rattle.set_up.specs.declared.stages.Stage.{Stage}
@@ -43,12 +47,13 @@ givenAt Underlyings X a = a
 givenAt Contracts X a = a
 givenAt Entries X a = richer X a
 
--- two books after as many records; while underlyings come, both have as many rows for them
+-- two books after as many records; while underlyings come, both have as many rows for them; once they are open, what the first holds is within its cash
 pub record Abreast (X : ℕ) (b b' : Book) : Type 0 where
   pub stage : b' .stage ≡ b .stage
   pub tables : RoomierTables (b .tables) (b' .tables)
   pub rows : inPlace (b .stage) 16 ≡ true → length (b' .tables .underlyings) ≡ length (b .tables .underlyings)
   pub account : b' .account ≡ givenAt (b .stage) X (b .account)
+  pub held : b .stage ≡ Entries → Held (b .tables) (b .account)
 
 pub abreast-beside : {X : ℕ} {b b' : Book} → Abreast X b b' → BookBeside X b b'
 abreast-beside {X} {b} {b'} so =
@@ -74,11 +79,15 @@ put-beside (x ∷ xs) (y ∷ ys) (suc m) p q roomier long so-far (suc u) = put-b
 pub both-pass : (passed : Bool) (why : Refusal) (rest : Verdict) → passed ≡ true → rest ≡ Accepted → (passed else why then rest) ≡ Accepted
 both-pass passed why rest e accepted = rw e accepted
 
+-- a book that waits for rows is not open
+pub not-open : {stage : Stage} → givenAt stage 1 (opening 0) .sheet .cash ≡ 0 → stage ≡ Entries → ⊥
+not-open shut opens = omega (arith, shut, ap (λ (stage : Stage). givenAt stage 1 (opening 0) .sheet .cash) opens)
+
 -- a row of set-up is in its place before the opening alone
 unopened : (X : ℕ) (stage : Stage) (kind : ℕ) (a : Account) → 16 ≤ kind → inPlace stage kind ≡ true → givenAt stage X a ≡ a
 unopened X Underlyings kind a many placed = refl
 unopened X Contracts kind a many placed = refl
-unopened X Entries kind a many placed = absurd (omega (arith, inside kind (1 to 8) placed))
+unopened X Entries kind a many placed = absurd (omega (arith, inside kind (1 to 10) placed))
 
 -- an accepted record goes on to the book after it
 module _ (b : Book) (entry : Entry) (f : Figures) where
@@ -120,6 +129,7 @@ module _ (X : ℕ) (b b' : Book) (f : Figures) (so : Abreast X b b') where
               };
           rows = λ waits. simp length-set (so .rows placed);
           account = so .account ∙ unopened X (b .stage) 16 (b .account) (omega arith) placed;
+          held = λ opens. absurd (not-open refl opens);
         },
       )
 
@@ -138,6 +148,7 @@ module _ (X : ℕ) (b b' : Book) (f : Figures) (so : Abreast X b b') where
           };
       rows = λ waits. absurd (true≢false (sym waits));
       account = so .account ∙ unopened X (b .stage) 17 (b .account) (omega arith) placed;
+      held = λ opens. absurd (not-open refl opens);
     },
   )
 
@@ -150,21 +161,24 @@ module _ (X : ℕ) (b b' : Book) (f : Figures) (so : Abreast X b b') where
       tables = so .tables;
       rows = λ waits. absurd (true≢false (sym waits));
       account = refl;
+      held = λ opens. opening-held (b .tables) cash;
     },
   )
 
-  entry-onward : (entry : Entry) → codeOf (kindOf entry) ≤ 8 → inPlace (b .stage) (codeOf (kindOf entry)) ≡ true → refusalOf (b .tables) (b .account) entry f ≡ Accepted
+  entry-onward : (entry : Entry) → codeOf (kindOf entry) < 16 → inPlace (b .stage) (codeOf (kindOf entry)) ≡ true → refusalOf (b .tables) (b .account) entry f ≡ Accepted
       → RoomFor X (accountAfter (b .tables) (b .account) entry f)
       → (refusalOf (b' .tables) (b' .account) entry f ≡ Accepted) × Abreast X (withEntry b entry f) (withEntry b' entry f)
   entry-onward entry few placed accepted room =
-      let too = entry-too X (b .tables) (b' .tables) (b .account) entry f (so .tables) accepted room in
-      let given : b' .account ≡ richer X (b .account) = so .account ∙ ap (λ (stage : Stage). givenAt stage X (b .account)) (open-stage (b .stage) (codeOf (kindOf entry)) few placed) in (
+      let stands = open-stage (b .stage) (codeOf (kindOf entry)) few placed in
+      let too = entry-too X (b .tables) (b' .tables) (b .account) entry f (so .tables) (so .held stands) accepted room in
+      let given : b' .account ≡ richer X (b .account) = so .account ∙ ap (λ (stage : Stage). givenAt stage X (b .account)) stands in (
         rw given (too .accepted),
         record {
           stage = refl;
           tables = too .tables;
           rows = λ waits. absurd (true≢false (sym waits));
           account = rw given (too .account);
+          held = λ opens. accepted-held (b .tables) (b .account) entry f (so .held stands) accepted;
         },
       )
 

@@ -54,7 +54,7 @@ module _ (t : Tables) (rows : List Underlying) (roomier : RoomierTables t (relis
   unfolding dayEnded unitsReleased dailyZero premiumJoined marginAfresh positionsNetted ordersCancelled coveredUnits marginIn
   ended-too X a =
       let after = dayEnded t a in
-      ap₂ (λ (cash margin : ℕ). withSheet after (record { cash = cash; premium = 0; holds = 0; margin = margin }))
+      ap₂ (λ (cash margin : ℕ). withSheet after (record { cash = cash; premium = 0; holds = a .waiting; margin = margin }))
       (omega arith)
       (margin-too (positionsNetted (ordersCancelled a)))
 

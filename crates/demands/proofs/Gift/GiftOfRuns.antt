@@ -25,7 +25,7 @@ use Rattle.demands.specs.Each.{Each}
 use Rattle.demands.specs.GiftRuns.{BookBeside, BooksAlike, FirstAccepts, GivenBeside, ReadAlike, SecondToo}
 use Rattle.demands.proofs.Answers.RunsTold.{read-goes-on}
 use Rattle.demands.proofs.Entries.EveryEntry.{book-sums, list-sums}
-use Rattle.demands.proofs.Gift.BooksBeside.{Abreast, Room, abreast-beside}
+use Rattle.demands.proofs.Gift.BooksBeside.{Abreast, Room, abreast-beside, not-open}
 use Rattle.demands.proofs.Gift.ListsBeside.{list-accepted, list-few, list-steps}
 use Rattle.demands.proofs.Gift.Relisted.{same-row}
 use Rattle.demands.proofs.Gift.RunsBeside.{AllAccepted, InStep, ReadsOn, together}
@@ -104,6 +104,7 @@ new-abreast X =
       tables = record { contracts = refl; n = refl; m = refl; rows = λ u. same-row _ };
       rows = λ waits. refl;
       account = refl;
+      held = λ opens. absurd (not-open refl opens);
     }
 
 -- two books from their records on

@@ -27,6 +27,7 @@ use Rattle.account.specs.declared.judged.Verdict.the-variants.{Accepted}
 use Rattle.account.specs.declared.tables.Tables.{Tables}
 use Rattle.account.proofs.Bounds.{four}
 use Rattle.account.proofs.Listed.{all-pass}
+use Rattle.account.proofs.OpeningSound.{opening-held}
 use Rattle.account.proofs.Passed.{went-on}
 use Rattle.rows.specs.Given.{listVerdict, tablesAllowed}
 use Rattle.set_up.specs.Stages.{Entered, entered, inPlace, opened, recordVerdict}
@@ -66,16 +67,17 @@ opened-abreast X t t' cash cash' beside =
       tables = beside .tables;
       rows = λ waits. absurd (true≢false (sym waits));
       account = ap opening (beside .richer);
+      held = λ opens. opening-held t cash;
     }
 
 -- set-up is out of its place in an open book, and an entry leaves it open
-still-open : (b : Book) (f : Figures) (entry : Entry) → b .stage ≡ Entries → entered b entry f .verdict ≡ Accepted → (codeOf (kindOf entry) ≤ 8) × (entered b entry f .book .stage ≡ Entries)
+still-open : (b : Book) (f : Figures) (entry : Entry) → b .stage ≡ Entries → entered b entry f .verdict ≡ Accepted → (codeOf (kindOf entry) < 16) × (entered b entry f .book .stage ≡ Entries)
 unfolding recordVerdict
 still-open b f entry stands accepted =
     let kind = codeOf (kindOf entry) in
     let passed = sym (entered-verdict b entry f) ∙ accepted in
     let placed = went-on (inPlace (b .stage) kind) OutOfPlace _ passed .0 in
-    let few = inside kind (1 to 8) (subst (λ (stage : Stage). inPlace stage kind ≡ true) stands placed) .1 in
+    let few : kind < 16 = omega (arith, inside kind (1 to 10) (subst (λ (stage : Stage). inPlace stage kind ≡ true) stands placed) .1) in
     (few, ap (λ (after : Entered). after .book .stage) (when-accepted b entry f passed) ∙ ap (λ (after : Book). after .stage) (after-entry b f entry few))
 
 same-reads : (X : ℕ) (s s' : List ℕ) → s' ≡ s → ReadsOn X s s' (λ place b. b .stage ≡ Entries)

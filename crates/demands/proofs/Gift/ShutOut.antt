@@ -18,7 +18,7 @@ use Rattle.writing.specs.Writing.{recordOf}
 use Rattle.account.specs.Changes.{applied}
 use Rattle.account.specs.Checks.{orderVerdict}
 use Rattle.account.specs.DayEnd.{dailyZero}
-use Rattle.account.specs.Money.{availableOf}
+use Rattle.account.specs.Money.{availableOf, holdsIn}
 use Rattle.account.specs.Opening.{opening}
 use Rattle.account.specs.Orders.{factsOf, freePlace, orderAllowed, orderChange}
 use Rattle.account.specs.Steps.{accountAfter, refusalOf, run, step, tablesAfter}
@@ -30,6 +30,9 @@ use Rattle.account.specs.declared.account.Account.{Account}
 use Rattle.account.specs.declared.judged.Outcome.{Outcome}
 use Rattle.account.specs.declared.judged.Verdict.{Verdict}
 use Rattle.account.specs.declared.judged.Verdict.the-variants.{Accepted, Refused}
+use Rattle.account.specs.declared.tables.Tables.{Tables}
+use Rattle.account.proofs.Held.{Held}
+use Rattle.account.proofs.OpeningSound.{opening-held}
 use Rattle.rows.specs.Given.{listVerdict}
 use Rattle.set_up.specs.Stages.{bookAfter, entered, recordVerdict}
 use Rattle.desk.specs.Runs.{answerTo, listRun, runFrom}
@@ -62,14 +65,19 @@ books-nothing-gift = always-same-gift Accepted (opening 0)
 pub pretends-gift : Gift pretends
 pretends-gift X cash t t' [] roomier accepted room = tt
 pretends-gift X cash t t' (e ∷ es) roomier accepted room =
-    let first = step-leads X t t' (opening cash) (e .0) (e .1) roomier (accepted .0) (room .0) in
+    let first = step-leads X t t' (opening cash) (e .0) (e .1) roomier (opening-held t cash) (accepted .0) (room .0) in
     let more = subst (XMore X (step t (opening cash) (e .0) (e .1) .account)) (sym (first .account)) (richer-more X _) in
     (record { accepted = first .accepted; account = more }, repeated (record { accepted = refl; account = more }) es)
+
+-- the daily counts have no part in what is held
+forgets-held : (t : Tables) (a : Account) → Held t a → Held t (dailyZero a)
+unfolding dailyZero holdsIn overOrders
+forgets-held t a held = record { rows = held .rows; emptied = held .emptied; holds = held .holds; reach = held .reach }
 
 -- forgetting the daily counts and adding to the cash touch different parts of an account
 pub forgets-daily-gift : Gift forgetsDaily
 unfolding dailyZero
-forgets-daily-gift = gift-by _ (λ X t t' a. step-leads X t t' (dailyZero a))
+forgets-daily-gift = gift-by _ (λ X t t' a entry f roomier held. step-leads X t t' (dailyZero a) entry f roomier (forgets-held t a held))
 
 -- what the contract answers on the input
 abbrev shownAnswers : List (ℕ × ℤ)
