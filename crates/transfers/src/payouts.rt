@@ -51,6 +51,6 @@ pub fn drop(sheet: Sheet, waiting: u64, last: u32) -> Decision
     if waiting == 0 {
         return Decision::Refused(Refusal::NothingWaiting);
     }
-    let freed = posted(sheet, Posting::HoldFreed(waiting));
-    Decision::Changes(Change::of_sheet(freed, Waiting::Becomes(0), last))
+    let dropped = posted(sheet, Posting::HoldFreed(waiting));
+    Decision::Changes(Change::of_sheet(dropped, Waiting::Becomes(0), last))
 }
