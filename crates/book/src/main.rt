@@ -37,6 +37,7 @@ fn print(bytes: &[u8]) -> usize
     let mut written = 0;
     while place < bytes.len() {
         let run = run_on(book, bytes, place, &mut numbers, &mut sums);
+        // Handed on at once, so that no third copy of the book lies in the stack while the page is written.
         book = run.book;
         place = run.place;
         let answered = run.answered;
