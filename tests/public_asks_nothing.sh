@@ -11,7 +11,7 @@ asks=$(awk '
         room = "Postable (sheet|\\(now sheet\\)) posting"
         may = "^ *requires \\{ ⌜ ((" sound ")( × (" rests "))?|" room ") ⌝ \\}$"
     }
-    FNR == 1 { public = 0; step = FILENAME ~ /^crates\/(postings|money|totals|gathering|orders|resting|fills|transfers|day_end|steps|set_up|edges)\// }
+    FNR == 1 { public = 0; step = FILENAME ~ /^crates\/(postings|money|totals|gathering|orders|resting|fills|transfers|day_end|steps|set_up|desk|edges)\// }
     /^ *(pub(\([a-z]+\))? )?(extern "C" )?fn / { public = /^ *pub / }
     public && /^ *requires/ && !(step && $0 ~ may) { print FILENAME ":" FNR ": " $0 }
 ' $(find crates -name '*.rt'))

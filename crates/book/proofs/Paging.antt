@@ -1,71 +1,104 @@
--- What is printed goes page by page: the lines after some records are the page that comes next and the lines after that page.
+-- What is printed goes page by page: the lines to come are those of a run with a page's places and, unless it stopped, the lines to come from where it stands.
 use mathlib.Core.Path.{_≡_, refl, sym, ap, _∙_}
-use mathlib.Core.List.{List, [], _∷_, _++_, append-assoc}
-use Prim.Native.Nat.{ℕ, zero, suc, _+_, _-_, _≤_, min}
+use mathlib.Core.Bool.{Bool, true, false, cond}
+use mathlib.Core.List.{List, [], _∷_, _++_, append-assoc, append-nil}
+use Prim.Native.Nat.{ℕ, suc, _+_, _≤_}
 use native.Mathlib.Nat.{add-zero, add-suc, suc-add}
 use native.Mathlib.Omega.{arith}
 use lib.IntN.{ℤ}
-use lib.ListN.{length, take, drop, drop-of-length-le, length-drop}
-use lib.Seq.{drop-append-seam, drop-drop, take-append-seam, take-nil}
-use Rattle.book.specs.Lines.{lineOf, linesFrom, printedFor, refusalsFor, sumsFor}
+use lib.ListN.{length, take, drop, length-append, length-drop}
+use lib.Seq.{drop-append-seam, drop-drop, take-append-seam}
+use Rattle.set_up.specs.Stages.{newBook}
+use Rattle.set_up.specs.declared.stages.Book.{Book}
+use Rattle.desk.specs.Runs.{Ran, runFrom}
+use Rattle.desk.proofs.Onward.{_onward_, goes-onward}
+use Rattle.desk.proofs.Places.{enough}
+use Rattle.desk.proofs.Turns.{no-byte}
+use Rattle.book.specs.Lines.{lineOf, linesFrom, printedFor}
+use Rattle.book.proofs.Answers.{linesOf}
 
--- a part that ends where the list does, if that is sooner
-as-many : {A : Type 0} (m n : ℕ) (l : List A) → m ≡ min n (length l) → take m l ≡ take n l
-as-many m n [] is = take-nil m ∙ sym (take-nil n)
-as-many zero zero (x ∷ l) is = refl
-as-many zero (suc n) (x ∷ l) is = absurd (omega arith)
-as-many (suc m) zero (x ∷ l) is = absurd (omega arith)
-as-many {A} (suc m) (suc n) (x ∷ l) is = ap (λ (t : List A). x ∷ t) (as-many m n l (omega arith))
-
-pub part : {A : Type 0} (first end : ℕ) (l : List A) → end ≡ min (first + 128) (length l) → take (end - first) (drop first l) ≡ take 128 (drop first l)
-part first end l is = as-many (end - first) 128 (drop first l) (simp length-drop (omega arith))
-
-no-sums : (number : ℕ) (refusals : List ℕ) → linesFrom number refusals [] ≡ []
+lines-append : (number : ℕ) (first more : List (ℕ × ℤ)) → linesOf number (first ++ more) ≡ linesOf number first ++ linesOf (number + length first) more
 unfolding linesFrom
-no-sums number [] = refl
-no-sums number (r ∷ refusals) = refl
+lines-append number [] more = ap (λ (k : ℕ). linesOf k more) (sym (add-zero number))
+lines-append number (answer ∷ first) more =
+    let line = lineOf number (answer .0) (answer .1) in
+    ap (λ (l : List ℕ). line ++ l)
+    (lines-append (suc number) first more ∙ ap (λ (k : ℕ). linesOf (suc number) first ++ linesOf k more) (suc-add number (length first) ∙ sym (add-suc number (length first))))
+    ∙ sym (append-assoc line (linesOf (suc number) first) (linesOf (number + suc (length first)) more))
 
-split : (n number : ℕ) (refusals : List ℕ) (sums : List ℤ)
-    → linesFrom number refusals sums ≡ linesFrom number (take n refusals) (take n sums) ++ linesFrom (number + n) (drop n refusals) (drop n sums)
-unfolding linesFrom
-split zero number refusals sums = ap (λ (k : ℕ). linesFrom k refusals sums) (sym (add-zero number))
-split (suc n) number [] sums = refl
-split (suc n) number (r ∷ refusals) [] = sym (no-sums (number + suc n) (drop n refusals))
-split (suc n) number (r ∷ refusals) (s ∷ sums) =
-    let front : List ℕ = linesFrom (suc number) (take n refusals) (take n sums) in
-    ap (λ (l : List ℕ). lineOf number r s ++ l)
-    (split n (suc number) refusals sums ∙ ap (λ (k : ℕ). front ++ linesFrom k (drop n refusals) (drop n sums)) (suc-add number n ∙ sym (add-suc number n)))
-    ∙ sym (append-assoc (lineOf number r s) front (linesFrom (number + suc n) (drop n refusals) (drop n sums)))
+-- a page: the lines of 128 records from a place on, or of as many as are left; `first` records were answered before
+abbrev pub pageFrom : List ℕ → ℕ → ℕ → Book → List ℕ
+pageFrom s first place b = linesOf (suc first) (runFrom 128 s place b .answers)
 
--- one page: the lines of the 128 records after the first ones, or of as many as are left
-unfoldable pub pageFrom : ℕ → List ℕ → List ℕ
-pageFrom first s = linesFrom (suc first) (take 128 (drop first (refusalsFor s))) (take 128 (drop first (sumsFor s)))
+-- all lines from a place on
+abbrev pub toCome : List ℕ → ℕ → ℕ → Book → List ℕ
+toCome s first place b = linesOf (suc first) (runFrom (length s) s place b .answers)
 
--- the lines of the records after the first ones
-unfoldable pub linesAfter : ℕ → List ℕ → List ℕ
-linesAfter first s = linesFrom (suc first) (drop first (refusalsFor s)) (drop first (sumsFor s))
+-- what comes behind the page of a run
+abbrev pub behind : List ℕ → ℕ → Ran → List ℕ
+behind s first ran = cond (ran .stopped) [] (toCome s (first + length (ran .answers)) (ran .place) (ran .book))
 
-pub next-page : (first : ℕ) (s : List ℕ) → linesAfter first s ≡ pageFrom first s ++ linesAfter (first + 128) s
-unfolding linesAfter pageFrom
-next-page first s = split 128 (suc first) (drop first (refusalsFor s)) (drop first (sumsFor s)) ∙ simp (suc-add, drop-drop)
+-- so nothing comes where the run stopped, and else all lines from where it stands
+module _ (s : List ℕ) (first : ℕ) (ran : Ran) where
+  abbrev on : List ℕ
+  on = toCome s (first + length (ran .answers)) (ran .place) (ran .book)
 
-pub none-left : (first : ℕ) (s : List ℕ) → length (refusalsFor s) ≤ first → linesAfter first s ≡ []
-unfolding linesAfter linesFrom
-none-left first s all = ap (λ (l : List ℕ). linesFrom (suc first) l (drop first (sumsFor s))) (drop-of-length-le (refusalsFor s) all)
+  pub none-behind : ran .stopped ≡ true → behind s first ran ≡ []
+  none-behind = ap (λ (stops : Bool). cond stops [] on)
 
-pub from-the-first : (s : List ℕ) → linesAfter 0 s ≡ printedFor s
-unfolding linesAfter printedFor
-from-the-first s = refl
+  pub more-behind : ran .stopped ≡ false → behind s first ran ≡ on
+  more-behind = ap (λ (stops : Bool). cond stops [] on)
 
--- what is printed behind the bytes that were written: the page that comes next, and behind it the lines after that page
-module _ (written first : ℕ) (s : List ℕ) (so-far : drop written (printedFor s) ≡ linesAfter first s) where
-  both : drop written (printedFor s) ≡ pageFrom first s ++ linesAfter (first + 128) s
-  both = so-far ∙ next-page first s
+module _ (s : List ℕ) (first place : ℕ) (b : Book) where
+  next-page : toCome s first place b ≡ pageFrom s first place b ++ behind s first (runFrom 128 s place b)
+  next-page =
+      ap (λ (r : Ran). linesOf (suc first) (r .answers)) (enough (length s) (128 + length s) s place b (omega arith) (omega arith) ∙ goes-onward 128 (length s) s place b)
+      ∙ go (runFrom 128 s place b .stopped)
+    where
+      ran : Ran
+      ran = runFrom 128 s place b
 
-  pub page-next : take (length (pageFrom first s)) (drop written (printedFor s)) ≡ pageFrom first s
-  page-next = ap (take (length (pageFrom first s))) both ∙ take-append-seam (pageFrom first s) (linesAfter (first + 128) s)
+      go : (stops : Bool)
+          → let more = runFrom (length s) s (ran .place) (ran .book) in
+          linesOf (suc first) (cond stops ran (record { answers = ran .answers ++ more .answers; place = more .place; stopped = more .stopped; book = more .book }) .answers)
+          ≡ linesOf (suc first) (ran .answers) ++ cond stops [] (toCome s (first + length (ran .answers)) (ran .place) (ran .book))
+      go true = sym (append-nil _)
+      go false =
+          let more = runFrom (length s) s (ran .place) (ran .book) in
+          lines-append (suc first) (ran .answers) (more .answers) ∙ ap (λ (k : ℕ). linesOf (suc first) (ran .answers) ++ linesOf k (more .answers)) (suc-add first (length (ran .answers)))
 
-  pub page-passed : drop (written + length (pageFrom first s)) (printedFor s) ≡ linesAfter (first + 128) s
+  pub none-left : length s ≤ place → toCome s first place b ≡ []
+  unfolding linesFrom
+  none-left all = ap (λ (r : Ran). linesOf (suc first) (r .answers)) (no-byte s place b (length s) all)
+
+-- so many bytes are written of what is printed, and these lines are left
+pub record Printed (s : List ℕ) (written : ℕ) (left : List ℕ) : Type 0 where
+  pub within : written ≤ length (printedFor s)
+  pub rest : drop written (printedFor s) ≡ left
+
+pub from-the-first : (s : List ℕ) → Printed s 0 (toCome s 0 0 newBook)
+unfolding printedFor
+from-the-first s = record { within = omega arith; rest = refl }
+
+module _ (s : List ℕ) (first written place : ℕ) (b : Book) (so : Printed s written (toCome s first place b)) where
+  abbrev page : List ℕ
+  page = pageFrom s first place b
+
+  both : drop written (printedFor s) ≡ page ++ behind s first (runFrom 128 s place b)
+  both = so .rest ∙ next-page s first place b
+
+  pub page-next : take (length page) (drop written (printedFor s)) ≡ page
+  page-next = ap (take (length page)) both ∙ take-append-seam page (behind s first (runFrom 128 s place b))
+
+  pub page-passed : Printed s (written + length page) (behind s first (runFrom 128 s place b))
   page-passed =
-      let k = length (pageFrom first s) in
-      sym (drop-drop k written (printedFor s)) ∙ ap (drop k) both ∙ drop-append-seam (pageFrom first s) (linesAfter (first + 128) s)
+      let after = behind s first (runFrom 128 s place b) in
+      let long = ap length both ∙ length-append page after in
+      record {
+        within = omega (arith, long, length-drop written (printedFor s), so .within);
+        rest = sym (drop-drop (length page) written (printedFor s)) ∙ ap (drop (length page)) both ∙ drop-append-seam page after;
+      }
+
+-- all is written where nothing is left
+pub all-written : (s : List ℕ) (written : ℕ) (left : List ℕ) → Printed s written left → left ≡ [] → written ≡ length (printedFor s)
+all-written s written left so none = omega (arith, so .within, length-drop written (printedFor s), ap length (so .rest ∙ none))

@@ -1,8 +1,8 @@
--- An answer leaves a sound book: an entered record keeps it so, and one that could not be read changes nothing. A record that was read moves the run by 8 bytes at least.
+-- An answer leaves a sound book: an entered record keeps it so, and one that could not be read changes nothing. A record that was read moves the run on, since it has a byte at least.
 use mathlib.Core.Path.{_≡_}
 use mathlib.Core.Bool.{false, true≢false}
 use mathlib.Core.List.{List}
-use Prim.Native.Nat.{ℕ, _+_, _≤_}
+use Prim.Native.Nat.{ℕ, _<_}
 use native.Mathlib.Omega.{arith}
 use lib.ListN.{length, drop}
 use Rattle.reading.specs.Reading.{readAt}
@@ -25,11 +25,11 @@ module _ (b : Book) (reading : Reading) where
       go (Found entry len) = entered-sound b entry (reading .figures) sound
       go (Refused why place) = sound
 
--- where a record was read, the next one stands 8 bytes on or more
-pub answer-eight : (b : Book) (s : List ℕ) (place : ℕ) → answerTo b (readAt s place) .ends ≡ false → place + 8 ≤ foundAt s place .next
+-- where a record was read, the next one stands behind it
+pub answer-moves : (b : Book) (s : List ℕ) (place : ℕ) → answerTo b (readAt s place) .ends ≡ false → place < foundAt s place .next
 unfolding answerTo
-answer-eight b s place = go (readAt s place .answer) (read-within s place)
+answer-moves b s place = go (readAt s place .answer) (read-within s place)
   where
-    go : (answer : Answer) → Within (length (drop place s)) answer → answerBy b (readAt s place .figures) answer .ends ≡ false → place + 8 ≤ nextPlace place answer
+    go : (answer : Answer) → Within (length (drop place s)) answer → answerBy b (readAt s place .figures) answer .ends ≡ false → place < nextPlace place answer
     go (Found entry len) so on = omega (arith, so .0)
     go (Refused why at) so on = absurd (true≢false on)

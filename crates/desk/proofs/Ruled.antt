@@ -19,7 +19,7 @@ use Rattle.set_up.specs.declared.stages.Book.{Book}
 use Rattle.set_up.proofs.Booking.{ruled-entered, ruling-rests, ruling-verdict}
 use Rattle.set_up.proofs.Entering.{entered-verdict}
 use Rattle.desk.specs.Runs.{answerBy, answerTo, availableIn}
-use Rattle.desk.proofs.Answered.{answer-eight}
+use Rattle.desk.proofs.Answered.{answer-moves}
 
 module _ (b : Book) (f : Figures) where
   abbrev pub rulingBy : Answer → Ruling
@@ -57,7 +57,7 @@ module _ (b : Book) (s : List ℕ) (place : ℕ) where
     where
       go : (ends : Bool) → answerTo b (readAt s place) .ends ≡ ends → ends ≡ true
       go true e = refl
-      go false e = absurd (omega (arith, answer-eight b s place e, stays))
+      go false e = absurd (omega (arith, answer-moves b s place e, stays))
 
   pub moves-on : (foundAt s place .next ≡ place → ⊥) → answerTo b (readAt s place) .ends ≡ false
   unfolding answerTo

@@ -1,5 +1,6 @@
 -- What a run leaves is known from what it starts from: a book before its first record, or a list's tables and cash where they are accepted. Where they are refused, nothing is left but what was there.
 use mathlib.Core.Path.{_≡_, refl, sym, subst, _∙_}
+use mathlib.Core.Bool.{false}
 use mathlib.Core.List.{List}
 use Prim.Native.Nat.{ℕ}
 use lib.IntN.{ℤ}
@@ -25,7 +26,7 @@ module _ (places : ℕ) (s : List ℕ) (r : Run) (numbers₀ numbers : List ℕ)
   list-run v t cash e = subst (λ (any : Verdict). Leaves any (listBy any t cash places s) r numbers₀ numbers sums₀ sums) (sym e)
 
 pub list-refused : (places : ℕ) (s : List ℕ) (numbers : List ℕ) (sums : List ℤ) (v said : Verdict) (t : Tables) (cash : ℕ) (why : Refusal) (b : Book)
-    → said ≡ v → said ≡ Refused why → b ≡ waiting t → Leaves v (listBy v t cash places s) (record { verdict = said; answered = 0; place = 0; book = b }) numbers numbers sums sums
+    → said ≡ v → said ≡ Refused why → b ≡ waiting t → Leaves v (listBy v t cash places s) (record { verdict = said; answered = 0; place = 0; stopped = false; book = b }) numbers numbers sums sums
 list-refused places s numbers sums v said t cash why b same e is =
-    subst (λ (any : Verdict). Leaves any (listBy any t cash places s) (record { verdict = said; answered = 0; place = 0; book = b }) numbers numbers sums sums) (sym e ∙ same)
-    ((λ i. record { verdict = e i; answered = 0; place = 0; book = is i }), (refl, refl))
+    subst (λ (any : Verdict). Leaves any (listBy any t cash places s) (record { verdict = said; answered = 0; place = 0; stopped = false; book = b }) numbers numbers sums sums) (sym e ∙ same)
+    ((λ i. record { verdict = e i; answered = 0; place = 0; stopped = false; book = is i }), (refl, refl))

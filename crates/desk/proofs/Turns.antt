@@ -2,7 +2,7 @@
 use mathlib.Core.Path.{_≡_, refl, sym, ap, subst, _∙_}
 use mathlib.Core.Bool.{Bool, true, false, cond, _&&_}
 use mathlib.Core.Logic.{_⊎_, inl, inr}
-use mathlib.Core.List.{List, map, _++_}
+use mathlib.Core.List.{List, [], map, _++_}
 use Prim.Native.Nat.{ℕ, zero, suc, _+_, _-_, _≤_, _<_, min}
 use native.Mathlib.Numerals.{add-one}
 use native.Mathlib.Omega.{arith}
@@ -16,11 +16,11 @@ use Rattle.reading.specs.Reading.{readAt}
 use Rattle.reader.specs.Reader.{foundAt}
 use Rattle.account.specs.declared.judged.Verdict.{Verdict}
 use Rattle.set_up.specs.declared.stages.Book.{Book}
-use Rattle.desk.specs.Runs.{Answered, Ran, answerTo, ended, _before_, runFrom, told, numbersLeft, sumsLeft}
+use Rattle.desk.specs.Runs.{Answered, Ran, answerTo, ended, stoppedAt, _before_, runFrom, told, numbersLeft, sumsLeft}
 
 -- what follows an answer
 abbrev pub rest : List ℕ → ℕ → ℕ → Answered → Ran
-rest s place places answer = cond (answer .ends) (ended place (answer .book)) (runFrom places s (foundAt s place .next) (answer .book))
+rest s place places answer = cond (answer .ends) (stoppedAt place (answer .book)) (runFrom places s (foundAt s place .next) (answer .book))
 
 module _ (s : List ℕ) (place : ℕ) (b : Book) where
   pub no-byte : (places : ℕ) → length s ≤ place → runFrom places s place b ≡ ended place b
@@ -41,6 +41,7 @@ module _ (s : List ℕ) (place : ℕ) (b : Book) where
 pub record Stands (whole rest : Ran) (k : ℕ) (numbers₀ numbers : List ℕ) (sums₀ sums : List ℤ) : Type 0 where
   pub answered : length (whole .answers) ≡ k + length (rest .answers)
   pub place : whole .place ≡ rest .place
+  pub stopped : whole .stopped ≡ rest .stopped
   pub book : whole .book ≡ rest .book
   pub numbers-laid : sets numbers₀ 0 (map (λ answer. answer .0) (whole .answers)) ≡ sets numbers k (map (λ answer. answer .0) (rest .answers))
   pub sums-laid : sets sums₀ 0 (map (λ answer. answer .1) (whole .answers)) ≡ sets sums k (map (λ answer. answer .1) (rest .answers))
@@ -55,6 +56,7 @@ module _ (whole : Ran) (k : ℕ) (numbers₀ numbers : List ℕ) (sums₀ sums :
       record {
         answered = omega (arith, so .answered);
         place = so .place;
+        stopped = so .stopped;
         book = so .book;
         numbers-laid = so .numbers-laid ∙ ap (λ (i : ℕ). sets (set numbers k (answer .number)) i (map (λ said. said .0) (more .answers))) (sym (add-one k));
         sums-laid = so .sums-laid ∙ ap (λ (i : ℕ). sets (set sums k (answer .available)) i (map (λ said. said .1) (more .answers))) (sym (add-one k));
@@ -72,15 +74,15 @@ module _ (whole : Ran) (k : ℕ) (numbers₀ numbers : List ℕ) (sums₀ sums :
         one-turn answer (rest s place next answer) (subst (λ (r : Ran). Stands whole r k numbers₀ numbers sums₀ sums) run so)
 
   -- where the run ends with the answer, where it goes on, and where no place or no byte is left
-  pub ended-so : (s : List ℕ) (place places : ℕ) (answer : Answered) → answer .ends ≡ true
-      → Stands whole (rest s place places answer) k numbers₀ numbers sums₀ sums → Stands whole (ended place (answer .book)) k numbers₀ numbers sums₀ sums
-  ended-so s place places answer e =
-      subst (λ (ends : Bool). Stands whole (cond ends (ended place (answer .book)) (runFrom places s (foundAt s place .next) (answer .book))) k numbers₀ numbers sums₀ sums) e
+  pub stopped-so : (s : List ℕ) (place places : ℕ) (answer : Answered) → answer .ends ≡ true
+      → Stands whole (rest s place places answer) k numbers₀ numbers sums₀ sums → Stands whole (stoppedAt place (answer .book)) k numbers₀ numbers sums₀ sums
+  stopped-so s place places answer e =
+      subst (λ (ends : Bool). Stands whole (cond ends (stoppedAt place (answer .book)) (runFrom places s (foundAt s place .next) (answer .book))) k numbers₀ numbers sums₀ sums) e
 
   pub goes-so : (s : List ℕ) (place places : ℕ) (answer : Answered) → answer .ends ≡ false
       → Stands whole (rest s place places answer) k numbers₀ numbers sums₀ sums → Stands whole (runFrom places s (foundAt s place .next) (answer .book)) k numbers₀ numbers sums₀ sums
   goes-so s place places answer e =
-      subst (λ (ends : Bool). Stands whole (cond ends (ended place (answer .book)) (runFrom places s (foundAt s place .next) (answer .book))) k numbers₀ numbers sums₀ sums) e
+      subst (λ (ends : Bool). Stands whole (cond ends (stoppedAt place (answer .book)) (runFrom places s (foundAt s place .next) (answer .book))) k numbers₀ numbers sums₀ sums) e
 
   pub done-so : (s : List ℕ) (place : ℕ) (b : Book) (places : ℕ) → (places ≤ k) ⊎ (length s ≤ place)
       → Stands whole (runFrom (places - k) s place b) k numbers₀ numbers sums₀ sums → Stands whole (ended place b) k numbers₀ numbers sums₀ sums
@@ -98,9 +100,9 @@ module _ (whole : Ran) (k : ℕ) (numbers₀ numbers : List ℕ) (sums₀ sums :
       let all : 0 + length (map said (whole .answers)) ≡ length (whole .answers) = omega (arith, many) in
       sets-eq (map said (whole .answers)) lent 0 (omega (arith, few, many)) ∙ ap (λ (n : ℕ). take 0 lent ++ map said (whole .answers) ++ drop n lent) all
 
-  module _ (place : ℕ) (b : Book) (so : Stands whole (ended place b) k numbers₀ numbers sums₀ sums) where
-    pub at-end : (v : Verdict) → record { verdict = v; answered = k; place = place; book = b } ≡ told v whole
-    at-end v i = record { verdict = v; answered = count i; place = sym (so .place) i; book = sym (so .book) i }
+  module _ (place : ℕ) (stops : Bool) (b : Book) (so : Stands whole (record { answers = []; place = place; stopped = stops; book = b }) k numbers₀ numbers sums₀ sums) where
+    pub at-end : (v : Verdict) → record { verdict = v; answered = k; place = place; stopped = stops; book = b } ≡ told v whole
+    at-end v i = record { verdict = v; answered = count i; place = sym (so .place) i; stopped = sym (so .stopped) i; book = sym (so .book) i }
       where
         count : k ≡ length (whole .answers)
         count = omega (arith, so .answered)
@@ -111,13 +113,13 @@ module _ (whole : Ran) (k : ℕ) (numbers₀ numbers : List ℕ) (sums₀ sums :
     pub sums-left : k ≤ length sums₀ → sums ≡ sumsLeft whole sums₀
     sums-left few = sym (so .sums-laid) ∙ laid sums₀ (λ said. said .1) (omega (arith, few, so .answered))
 
-pub nothing-yet : (places : ℕ) (s : List ℕ) (b : Book) (numbers : List ℕ) (sums : List ℤ)
-    → Stands (runFrom places s 0 b) (runFrom (places - 0) s 0 b) 0 numbers numbers sums sums
-nothing-yet places s b numbers sums =
-    let whole = runFrom places s 0 b in
+pub nothing-yet : (places : ℕ) (s : List ℕ) (place : ℕ) (b : Book) (numbers : List ℕ) (sums : List ℤ)
+    → Stands (runFrom places s place b) (runFrom (places - 0) s place b) 0 numbers numbers sums sums
+nothing-yet places s place b numbers sums =
+    let whole = runFrom places s place b in
     let all : places ≡ places - 0 = omega arith in
-    subst (λ (n : ℕ). Stands whole (runFrom n s 0 b) 0 numbers numbers sums sums) all
-    (record { answered = omega arith; place = refl; book = refl; numbers-laid = refl; sums-laid = refl })
+    subst (λ (n : ℕ). Stands whole (runFrom n s place b) 0 numbers numbers sums sums) all
+    (record { answered = omega arith; place = refl; stopped = refl; book = refl; numbers-laid = refl; sums-laid = refl })
 
 -- the loop's test: a place in each slice, and a byte
 module _ (k a b place size : ℕ) where

@@ -51,19 +51,24 @@ answerBy b f (Answer·of.Refused why place) = record { number = numberOf why; av
 unfoldable pub answerTo : Book → Reading → Answered
 answerTo b reading = answerBy b (reading .figures) (reading .answer)
 
--- a run: the answers, the place of the next record, and the book as it then is (house)
+-- a run: the answers, the place of the next record, whether it stopped at one that could not be read, and the book as it then is (house)
 pub record Ran : Type 0 where
   pub answers : List (ℕ × ℤ)
   pub place : ℕ
+  pub stopped : Bool
   pub book : Book
 
+-- nothing more is answered: no byte or no place is left, or "it stops after 1, 2 or 3" (Figures to meet)
 abbrev pub ended : ℕ → Book → Ran
-ended place b = record { answers = []; place = place; book = b }
+ended place b = record { answers = []; place = place; stopped = false; book = b }
+
+abbrev pub stoppedAt : ℕ → Book → Ran
+stoppedAt place b = record { answers = []; place = place; stopped = true; book = b }
 
 infixr 5 _before_
 -- an answer before those of the rest (house)
 abbrev pub _before_ : Answered → Ran → Ran
-answer before rest = record { answers = (answer .number, answer .available) ∷ rest .answers; place = rest .place; book = rest .book }
+answer before rest = record { answers = (answer .number, answer .available) ∷ rest .answers; place = rest .place; stopped = rest .stopped; book = rest .book }
 
 -- from a place of the bytes on, each time where the reader then stands: "it stops after 1, 2 or 3, or when no byte is left", or when no place is left for an answer (Records; Figures to meet; house)
 unfoldable pub runFrom : ℕ → List ℕ → ℕ → Book → Ran
@@ -71,7 +76,7 @@ runFrom zero s place b = ended place b
 runFrom (suc places) s place b =
     let answer = answerTo b (readAt s place) in
     cond (ltb place (length s))
-    (answer before cond (answer .ends) (ended place (answer .book)) (runFrom places s (foundAt s place .next) (answer .book)))
+    (answer before cond (answer .ends) (stoppedAt place (answer .book)) (runFrom places s (foundAt s place .next) (answer .book)))
     (ended place b)
 
 -- as many records are answered as both slices have places for (house)
@@ -91,7 +96,7 @@ listRun t cash = listBy (listVerdict t cash) t cash
 
 -- what the caller is told, and what the lent slices hold afterwards: the answers from the first place on, behind them what was there (house)
 abbrev pub told : Verdict → Ran → Run
-told v r = record { verdict = v; answered = length (r .answers); place = r .place; book = r .book }
+told v r = record { verdict = v; answered = length (r .answers); place = r .place; stopped = r .stopped; book = r .book }
 
 abbrev pub numbersLeft : Ran → List ℕ → List ℕ
 numbersLeft r numbers = map (λ answer. answer .0) (r .answers) ++ drop (length (r .answers)) numbers

@@ -17,11 +17,13 @@ ghost use Rattle.rows.specs.Given.{listVerdict};
 ghost use Rattle.desk.specs.Runs.{bookRun, listRun, numbersLeft, placesIn, runFrom, sumsLeft, told};
 
 // What a run leads to. The verdict is that on what it starts from: a list's tables or cash may be refused, and then no record is
-// answered. `place` is that of the next record, or of the one that could not be read.
+// answered. `place` is that of the next record, or of the one that could not be read, with which the run `stopped`; one that only ran
+// out of places goes on from there with `run_on`.
 pub struct Run {
     pub verdict: Verdict,
     pub answered: usize,
     pub place: usize,
+    pub stopped: bool,
     pub book: Book,
 }
 
@@ -39,11 +41,12 @@ pub fn run_list(
 {
     let verdict = list_verdict(tables, cash);
     match verdict {
-        Verdict::Accepted => run_from(Book::opened(tables, cash), bytes, numbers, sums),
+        Verdict::Accepted => run_on(Book::opened(tables, cash), bytes, 0, numbers, sums),
         Verdict::Refused(_) => Run {
             verdict,
             answered: 0,
             place: 0,
+            stopped: false,
             book: Book::waiting(tables),
         },
     }
@@ -55,18 +58,18 @@ pub fn run_book(bytes: &[u8], numbers: &mut [u8], sums: &mut [i64]) -> Run
     ensures numbers { λ r. ⌜ now (numbers .exit) ≡ numbersLeft (bookRun (placesIn (now (numbers .entry)) (now (sums .entry))) (now (bytes .entry))) (now (numbers .entry)) ⌝ }
     ensures sums { λ r. ⌜ now (sums .exit) ≡ sumsLeft (bookRun (placesIn (now (numbers .entry)) (now (sums .entry))) (now (bytes .entry))) (now (sums .entry)) ⌝ }
 {
-    run_from(Book::new(), bytes, numbers, sums)
+    run_on(Book::new(), bytes, 0, numbers, sums)
 }
 
-// Record after record, as long as both slices have a place for its answer.
-fn run_from(start: Book, bytes: &[u8], numbers: &mut [u8], sums: &mut [i64]) -> Run
-    requires { ⌜ SoundBook start ⌝ }
-    ensures run { λ r. ⌜ r ≡ told Verdict.Accepted (runFrom (placesIn (now (numbers .entry)) (now (sums .entry))) (now (bytes .entry)) 0 start) ⌝ }
-    ensures numbers { λ r. ⌜ now (numbers .exit) ≡ numbersLeft (runFrom (placesIn (now (numbers .entry)) (now (sums .entry))) (now (bytes .entry)) 0 start) (now (numbers .entry)) ⌝ }
-    ensures sums { λ r. ⌜ now (sums .exit) ≡ sumsLeft (runFrom (placesIn (now (numbers .entry)) (now (sums .entry))) (now (bytes .entry)) 0 start) (now (sums .entry)) ⌝ }
+// A book in hand goes on from a place of the bytes, record after record, as long as both slices have a place for its answer.
+pub fn run_on(book: Book, bytes: &[u8], place: usize, numbers: &mut [u8], sums: &mut [i64]) -> Run
+    requires { ⌜ SoundBook book ⌝ }
+    ensures run { λ r. ⌜ r ≡ told Verdict.Accepted (runFrom (placesIn (now (numbers .entry)) (now (sums .entry))) (now (bytes .entry)) place book) ⌝ }
+    ensures numbers { λ r. ⌜ now (numbers .exit) ≡ numbersLeft (runFrom (placesIn (now (numbers .entry)) (now (sums .entry))) (now (bytes .entry)) place book) (now (numbers .entry)) ⌝ }
+    ensures sums { λ r. ⌜ now (sums .exit) ≡ sumsLeft (runFrom (placesIn (now (numbers .entry)) (now (sums .entry))) (now (bytes .entry)) place book) (now (sums .entry)) ⌝ }
 {
-    let mut book = start;
-    let mut place = 0;
+    let mut book = book;
+    let mut place = place;
     let mut k = 0;
     while (k < numbers.len()) & (k < sums.len()) & (place < bytes.len()) {
         let read = read_next(bytes, place);
@@ -90,6 +93,7 @@ fn run_from(start: Book, bytes: &[u8], numbers: &mut [u8], sums: &mut [i64]) -> 
                 verdict: Verdict::Accepted,
                 answered: k,
                 place,
+                stopped: true,
                 book,
             };
         }
@@ -99,6 +103,7 @@ fn run_from(start: Book, bytes: &[u8], numbers: &mut [u8], sums: &mut [i64]) -> 
         verdict: Verdict::Accepted,
         answered: k,
         place,
+        stopped: false,
         book,
     }
 }

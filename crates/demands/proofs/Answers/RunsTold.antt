@@ -25,7 +25,7 @@ use Rattle.account.specs.declared.tables.Tables.{Tables}
 use Rattle.set_up.specs.Stages.{Entered, entered, opened}
 use Rattle.set_up.specs.declared.stages.Book.{Book}
 use Rattle.set_up.proofs.Entering.{entered-verdict}
-use Rattle.desk.specs.Runs.{Ran, _before_, answerBy, answerTo, availableIn, ended, listBy, runFrom}
+use Rattle.desk.specs.Runs.{Ran, _before_, answerBy, answerTo, availableIn, ended, listBy, runFrom, stoppedAt}
 use Rattle.desk.specs.declared.Run.{Run}
 use Rattle.desk.proofs.Started.{Leaves}
 use Rattle.reading.proofs.Within.{Within, read-within}
@@ -62,7 +62,7 @@ run-numbers (suc places) s place b =
     go (ltb place (length s)) (answer .ends) _ (run-numbers places s (foundAt s place .next) (answer .book))
   where
     go : (there ends : Bool) (more : Ran) → AllNumbered more
-        → let answer = answerTo b (readAt s place) in AllNumbered (cond there (answer before cond ends (ended place (answer .book)) more) (ended place b))
+        → let answer = answerTo b (readAt s place) in AllNumbered (cond there (answer before cond ends (stoppedAt place (answer .book)) more) (ended place b))
     go false ends more rest = tt
     go true true more rest = (answer-number b s place, tt)
     go true false more rest = (answer-number b s place, rest)
@@ -73,12 +73,12 @@ list-run-numbers (Refused why) t cash n s = tt
 
 -- the answer to an entered record, before those of the rest
 abbrev pub led : Entered → Ran → Ran
-led after rest = record { answers = (numberIn (after .verdict), availableIn (after .book)) ∷ rest .answers; place = rest .place; book = rest .book }
+led after rest = record { answers = (numberIn (after .verdict), availableIn (after .book)) ∷ rest .answers; place = rest .place; stopped = rest .stopped; book = rest .book }
 
 -- "refusals 1 to 3 end the reading of a book": a record that can't be read is answered by such a number, and nothing follows
 module _ (places : ℕ) (s : List ℕ) (place : ℕ) (b : Book) (there : place < length s) where
   pub unread-ends : (why : Refusal) (p : ℕ) → readAt s place .answer ≡ Reading·of.Refused why p
-      → (runFrom (suc places) s place b ≡ record { answers = (numberOf why, availableIn b) ∷ []; place = place; book = b }) × ((1 ≤ numberOf why) × (numberOf why ≤ 3))
+      → (runFrom (suc places) s place b ≡ record { answers = (numberOf why, availableIn b) ∷ []; place = place; stopped = true; book = b }) × ((1 ≤ numberOf why) × (numberOf why ≤ 3))
   unfolding runFrom answerTo
   unread-ends why p e =
       (rw (lt-ltb place (length s) there, e) refl, subst (Within (length (drop place s))) e (read-within s place))

@@ -12,7 +12,7 @@ use Rattle.reading.specs.Reading.{readAt}
 use Rattle.reader.specs.Reader.{foundAt}
 use Rattle.reading.specs.declared.Reading.{Reading}
 use Rattle.set_up.specs.declared.stages.Book.{Book}
-use Rattle.desk.specs.Runs.{Answered, Ran, _before_, answerTo, ended, runFrom}
+use Rattle.desk.specs.Runs.{Answered, Ran, _before_, answerTo, ended, runFrom, stoppedAt}
 use Rattle.desk.proofs.Turns.{no-byte, rest, turn}
 
 -- the k-th answer of a run, and what it stands for between two runs
@@ -21,7 +21,7 @@ said run k = getD (run .answers) k (0, pos 0)
 
 -- a turn, by whether a byte is left and whether the answer ends the run
 abbrev turned : ℕ → Book → Answered → Bool → Bool → Ran → Ran
-turned place b answer there ends more = cond there (answer before cond ends (ended place (answer .book)) more) (ended place b)
+turned place b answer there ends more = cond there (answer before cond ends (stoppedAt place (answer .book)) more) (ended place b)
 
 -- what a record's answer stands for between two runs
 abbrev pub Between : (Book → Book → Reading → ℕ → ℤ → Type 0) → List ℕ → Ran → Ran → ℕ × ℤ → Type 0
@@ -75,7 +75,7 @@ as-answered (suc n) s place b =
   where
     go : (answer : Answered) (ends : Bool)
         → let more : ℕ → Ran = λ n. runFrom n s (foundAt s place .next) (answer .book) in
-        let next : ℕ → Ran = λ n. cond ends (ended place (answer .book)) (more n) in
+        let next : ℕ → Ran = λ n. cond ends (stoppedAt place (answer .book)) (more n) in
         more n ≡ more (length (more n .answers)) → next n ≡ next (length (next n .answers))
     go answer true same = refl
     go answer false same = same

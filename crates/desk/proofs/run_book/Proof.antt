@@ -15,4 +15,4 @@ run-book-spec =
     (λ c κs. subst SoundBook (sym (c .before .before .new .ensures)) new-sound)
     (λ c. search needs)
     (λ c. search needs)
-    (λ c. from-start _ _ _ _ _ _ _ _ _ (c .before .before .before .before .before .before .new .ensures) (c .before .before .before .run-from .ensures)))
+    (λ c. from-start _ _ _ _ _ _ _ _ _ (c .before .before .before .before .before .before .new .ensures) (c .before .before .before .run-on .ensures)))

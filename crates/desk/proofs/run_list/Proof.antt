@@ -13,8 +13,8 @@ use Rattle.desk.proofs.run_list.Tie as tie
 sizes : (start : tie.Start) → (length (start .args .tables .underlyings) ≡ 8) × (length (start .args .tables .contracts) ≡ 64)
 sizes start = (search (counted, needs), search (counted, needs))
 
-run-from-requires : tie.Need-run-from-requires
-run-from-requires c κs =
+run-on-requires : tie.Need-run-on-requires
+run-on-requires c κs =
     let opens = c .before .before in
     let told = opens .before in
     let judged = told .before .before in
@@ -27,7 +27,7 @@ returns c =
     let opens = ran .before .before .before in
     let told = opens .before in
     let judged = told .before .before in
-    list-run _ _ _ _ _ _ _ _ _ _ (sym (judged .list-verdict .ensures) ∙ told .enum-told .given .1) (from-start _ _ _ _ _ _ _ _ _ (opens .opened .ensures) (ran .run-from .ensures))
+    list-run _ _ _ _ _ _ _ _ _ _ (sym (judged .list-verdict .ensures) ∙ told .enum-told .given .1) (from-start _ _ _ _ _ _ _ _ _ (opens .opened .ensures) (ran .run-on .ensures))
 
 returns-2 : tie.Need-returns-2
 returns-2 c =
@@ -42,7 +42,7 @@ run-list-spec =
     (λ c κs. tt)
     (λ c. search needs)
     (λ c κs. tt)
-    run-from-requires
+    run-on-requires
     (λ c. search needs)
     (λ c κs. tt)
     (λ c. search needs)

@@ -1,4 +1,4 @@
--- `run_from` meets its contract: what the slices hold and what is still to be answered are together the whole run, turn by turn, and at the end nothing is left to answer.
+-- `run_on` meets its contract: what the slices hold and what is still to be answered are together the whole run, turn by turn, and at the end nothing is left to answer.
 use mathlib.Core.Path.{_≡_, sym, ap, subst, _∙_}
 use mathlib.Core.Bool.{true, false}
 use mathlib.Core.Logic.{_⊎_, ⊎-elim, inl, inr}
@@ -18,18 +18,18 @@ use Rattle.set_up.specs.declared.stages.Book.{Book}
 use Rattle.desk.specs.Runs.{Answered, answerTo, placesIn, runFrom}
 use Rattle.desk.proofs.Answered.{answer-sound}
 use Rattle.desk.proofs.Ruled.{book-by, moves-on, rests-by, ruled-answer, rulingBy, stays-ends}
-use Rattle.desk.proofs.Turns.{Stands, at-end, done-so, ended-so, goes-on, goes-so, nothing-yet, numbers-left, rest, same-lengths, stops, sums-left, turned}
-use Rattle.desk.proofs.run_from.Statement.{statement}
-use Rattle.desk.proofs.run_from.Tie as tie
+use Rattle.desk.proofs.Turns.{Stands, at-end, done-so, goes-on, goes-so, nothing-yet, numbers-left, rest, same-lengths, stopped-so, stops, sums-left, turned}
+use Rattle.desk.proofs.run_on.Statement.{statement}
+use Rattle.desk.proofs.run_on.Tie as tie
 
 abbrev Inv-loop : tie.InvT-loop
-Inv-loop bytes numbers₀ sums₀ book₀ place₀ k₀ numbers sums book place k =
+Inv-loop bytes from numbers₀ sums₀ book₀ place₀ k₀ numbers sums book place k =
     (k ≤ placesIn numbers₀ sums₀)
     × SoundBook book
-    × Stands (runFrom (placesIn numbers₀ sums₀) bytes 0 book₀) (runFrom (placesIn numbers₀ sums₀ - k) bytes place book) k numbers₀ numbers sums₀ sums
+    × Stands (runFrom (placesIn numbers₀ sums₀) bytes from book₀) (runFrom (placesIn numbers₀ sums₀ - k) bytes place book) k numbers₀ numbers sums₀ sums
 
 abbrev μ-loop : tie.MeasureT-loop
-μ-loop bytes numbers₀ sums₀ book₀ place₀ k₀ numbers sums book place k = placesIn numbers₀ sums₀ - k
+μ-loop bytes from numbers₀ sums₀ book₀ place₀ k₀ numbers sums book place k = placesIn numbers₀ sums₀ - k
 
 -- the loop's test says that there is a place in each slice, and a byte
 tests : (c : tie.In-loop Inv-loop μ-loop)
@@ -112,7 +112,7 @@ module _ (c : tie.After-available-in Inv-loop μ-loop) where
   after : let loop = at (turn came) in
       let args = loop .before .before .before .args in
       let places = placesIn (args .numbers .now) (args .sums .now) in
-      Stands (runFrom places (args .bytes .now) 0 (args .start)) (rest (args .bytes .now) (loop .loop .place) (places - (loop .loop .k + 1)) said)
+      Stands (runFrom places (args .bytes .now) (args .place) (args .book)) (rest (args .bytes .now) (loop .loop .place) (places - (loop .loop .k + 1)) said)
       (loop .loop .k + 1) (args .numbers .now) (set (loop .loop .numbers) (loop .loop .k) (said .number)) (args .sums .now) (set (loop .loop .sums) (loop .loop .k) (toZ w64 (ofZ w64 (said .available))))
   after =
       let loop = at (turn came) in
@@ -121,7 +121,7 @@ module _ (c : tie.After-available-in Inv-loop μ-loop) where
       rw stored (turned _ _ _ _ _ _ _ _ _ _ said is (omega (arith, test, lengths loop)) (test .2) (loop .loop .inv .2))
 
 loop-holds : tie.Need-loop-holds Inv-loop μ-loop
-loop-holds c = (omega arith, c .before .before .pre, nothing-yet _ _ _ _ _)
+loop-holds c = (omega arith, c .before .before .pre, nothing-yet _ _ _ _ _ _)
 
 -- the reader stayed, and the run ends
 returns : tie.Need-returns Inv-loop μ-loop
@@ -132,8 +132,8 @@ returns c =
     let ends : said answer .ends ≡ true =
     ap (λ (r : Read). answerTo (before (came answer)) (r .reading) .ends) (place .read-next .ensures)
     ∙ stays-ends _ _ _ (sym (ap (λ (r : Read). r .next) (place .read-next .ensures)) ∙ c .if1 .taken) in
-    let so = ended-so _ _ _ _ _ _ _ _ _ (said answer) ends (after answer) in
-    (at-end _ _ _ _ _ _ _ _ so _, (numbers-left _ _ _ _ _ _ _ _ so (omega (arith, test, lengths (at place))), sums-left _ _ _ _ _ _ _ _ so (omega (arith, test, lengths (at place)))))
+    let so = stopped-so _ _ _ _ _ _ _ _ _ (said answer) ends (after answer) in
+    (at-end _ _ _ _ _ _ _ _ _ so _, (numbers-left _ _ _ _ _ _ _ _ _ so (omega (arith, test, lengths (at place))), sums-left _ _ _ _ _ _ _ _ _ so (omega (arith, test, lengths (at place)))))
 
 loop-again : tie.Need-loop-again Inv-loop μ-loop
 loop-again c =
@@ -154,10 +154,10 @@ returns-2 c =
     let none = stops (loop .k) (length (loop .numbers)) (length (loop .sums)) (loop .place) (length (args .bytes .now)) (c .loop-test .left) in
     let few : (placesIn (args .numbers .now) (args .sums .now) ≤ loop .k) ⊎ (length (args .bytes .now) ≤ loop .place) = ⊎-elim (λ w. inl (omega (arith, w, lengths (c .before)))) (λ w. inr w) none in
     let so = done-so _ _ _ _ _ _ _ _ _ _ few (loop .inv .2) in
-    (at-end _ _ _ _ _ _ _ _ so _, (numbers-left _ _ _ _ _ _ _ _ so (omega arith), sums-left _ _ _ _ _ _ _ _ so (omega arith)))
+    (at-end _ _ _ _ _ _ _ _ _ so _, (numbers-left _ _ _ _ _ _ _ _ _ so (omega arith), sums-left _ _ _ _ _ _ _ _ _ so (omega arith)))
 
-pub run-from-spec : {M : Type 1} → statement M
-run-from-spec =
+pub run-on-spec : {M : Type 1} → statement M
+run-on-spec =
     tie.close
     (tie.spec
     Inv-loop
