@@ -6,7 +6,7 @@ set -eu
 cd "$(dirname "$0")/.."
 asks=$(awk '
     BEGIN {
-        sound = "Sound tables account|SoundTables tables|SoundSheet sheet|SoundBook book"
+        sound = "Sound tables account|SoundTables tables|SoundSheet sheet|SoundPayout sheet waiting|SoundBook book"
         rests = "FiguresTaken tables figures|Rests tables figures decision|RestsOn book figures ruling"
         room = "Postable (sheet|\\(now sheet\\)) posting"
         may = "^ *requires \\{ ⌜ ((" sound ")( × (" rests "))?|" room ") ⌝ \\}$"

@@ -47,7 +47,7 @@ abbrev Same : Kind → Stage → Type 0
 Same kind stage = not (member (codeOf kind) (due stage)) ≡ not (inPlace stage (codeOf kind))
 
 placed : (kind : Kind) (stage : Stage) → Same kind stage
-placed kind = each-stage (Same kind) (each-kind (λ kind. Same kind Underlyings × Same kind Contracts × Same kind Entries) search kind)
+placed kind = each-stage (Same kind) (each-kind (λ kind. Same kind Underlyings × Same kind Contracts × Same kind Entries) (search) kind)
 
 module _ (row : Underlying) where
   underlying-adds : {tests : List (Bool × ℕ)} → Adds (underlyingAllowed row) OutOfRange tests (underlyingTests row ++ tests)

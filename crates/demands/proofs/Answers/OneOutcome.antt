@@ -12,6 +12,8 @@ use Rattle.writing.proofs.write.Reads as write
 use Rattle.postings.proofs.posted.Reads as posted
 use Rattle.gathering.proofs.gather.Reads as gather
 use Rattle.transfers.proofs.deposit.Reads as deposit
+use Rattle.transfers.proofs.drop.Reads as drop
+use Rattle.transfers.proofs.pay.Reads as pay
 use Rattle.transfers.proofs.withdraw.Reads as withdraw
 use Rattle.transfers.proofs.lock.Reads as lock
 use Rattle.transfers.proofs.unlock.Reads as unlock
@@ -76,6 +78,12 @@ deposit-one κs a r r' s s' p q = p ∙ sym q
 
 pub withdraw-one : (κs : _) (a : _) (r r' : _) (s s' : _) → withdraw.Post κs a r s → withdraw.Post κs a r' s' → r ≡ r'
 withdraw-one κs a r r' s s' p q = p ∙ sym q
+
+pub pay-one : (κs : _) (a : _) (r r' : _) (s s' : _) → pay.Post κs a r s → pay.Post κs a r' s' → r ≡ r'
+pay-one κs a r r' s s' p q = p ∙ sym q
+
+pub drop-one : (κs : _) (a : _) (r r' : _) (s s' : _) → drop.Post κs a r s → drop.Post κs a r' s' → r ≡ r'
+drop-one κs a r r' s s' p q = p ∙ sym q
 
 pub lock-one : (κs : _) (a : _) (r r' : _) (s s' : _) → lock.Post κs a r s → lock.Post κs a r' s' → r ≡ r'
 lock-one κs a r r' s s' p q = p ∙ sym q

@@ -25,7 +25,7 @@ use Rattle.account.specs.declared.account.Sheet.{Sheet}
 use Rattle.account.specs.declared.judged.Named.{Named}
 use Rattle.account.specs.declared.judged.Verdict.the-variants.{Accepted}
 use Rattle.account.specs.declared.tables.Tables.{Tables}
-use Rattle.account.proofs.FillSound.{fill-passed}
+use Rattle.account.proofs.Filled.{fill-passed}
 use Rattle.demands.specs.Gift.{RoomFor, RoomierTables, richer, richerSheet}
 use Rattle.demands.proofs.Gift.ChecksToo.{check-too, unless-too, under-higher, within-ceiling}
 use Rattle.demands.proofs.Gift.Relisted.{Too, withCash, relisted, margin-same, hold-same}
