@@ -1,7 +1,8 @@
 -- The reasons have distinct numbers, and these are 1 to 20 in the paper's order: the list of all reasons has each at its number's place, which computes.
 use mathlib.Core.Path.{_≡_, refl, sym, ap, _∙_}
 use mathlib.Core.List.{List, [], _∷_, map}
-use Prim.Native.Nat.{ℕ, _-_}
+use Prim.Native.Nat.{ℕ, zero, suc, _-_, _≤_}
+use native.Mathlib.Omega.{arith}
 use lib.ListN.{getD}
 use Rattle.terms.specs.Refusals.{numberOf}
 use Rattle.terms.specs.declared.refusal.Refusal.{Refusal}
@@ -43,3 +44,11 @@ placed AlreadyWaiting = refl
 
 pub distinct : (why other : Refusal) → numberOf why ≡ numberOf other → why ≡ other
 distinct why other e = sym (placed why) ∙ ap reason e ∙ placed other
+
+-- so none has the number 0, whose place would be that of 1
+pub some-number : (why : Refusal) → 1 ≤ numberOf why
+some-number why = go (numberOf why) refl
+  where
+    go : (n : ℕ) → numberOf why ≡ n → 1 ≤ n
+    go zero e = absurd (omega (arith, e, ap numberOf (sym (placed why) ∙ ap reason e)))
+    go (suc n) e = omega arith
