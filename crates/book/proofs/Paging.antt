@@ -11,7 +11,7 @@ use lib.Seq.{drop-append-seam, drop-drop, take-append-seam}
 use Rattle.set_up.specs.Stages.{newBook}
 use Rattle.set_up.specs.declared.stages.Book.{Book}
 use Rattle.desk.specs.Runs.{Ran, runFrom}
-use Rattle.desk.proofs.Onward.{_onward_, goes-onward}
+use Rattle.desk.proofs.Onward.{_joined_, goes-onward}
 use Rattle.desk.proofs.Places.{enough}
 use Rattle.desk.proofs.Turns.{no-byte}
 use Rattle.book.specs.Lines.{lineOf, linesFrom, printedFor}
@@ -53,17 +53,13 @@ module _ (s : List ℕ) (first place : ℕ) (b : Book) where
   next-page : toCome s first place b ≡ pageFrom s first place b ++ behind s first (runFrom 128 s place b)
   next-page =
       ap (λ (r : Ran). linesOf (suc first) (r .answers)) (enough (length s) (128 + length s) s place b (omega arith) (omega arith) ∙ goes-onward 128 (length s) s place b)
-      ∙ go (runFrom 128 s place b .stopped)
+      ∙ go (runFrom 128 s place b) (runFrom 128 s place b .stopped)
     where
-      ran : Ran
-      ran = runFrom 128 s place b
-
-      go : (stops : Bool)
+      go : (ran : Ran) (stops : Bool)
           → let more = runFrom (length s) s (ran .place) (ran .book) in
-          linesOf (suc first) (cond stops ran (record { answers = ran .answers ++ more .answers; place = more .place; stopped = more .stopped; book = more .book }) .answers)
-          ≡ linesOf (suc first) (ran .answers) ++ cond stops [] (toCome s (first + length (ran .answers)) (ran .place) (ran .book))
-      go true = sym (append-nil _)
-      go false =
+          linesOf (suc first) (cond stops ran (ran joined more) .answers) ≡ linesOf (suc first) (ran .answers) ++ cond stops [] (linesOf (suc (first + length (ran .answers))) (more .answers))
+      go ran true = sym (append-nil _)
+      go ran false =
           let more = runFrom (length s) s (ran .place) (ran .book) in
           lines-append (suc first) (ran .answers) (more .answers) ∙ ap (λ (k : ℕ). linesOf (suc first) (ran .answers) ++ linesOf k (more .answers)) (suc-add first (length (ran .answers)))
 

@@ -15,26 +15,23 @@ use Rattle.desk.specs.Runs.{Answered, Ran, _before_, answerTo, ended, ru
 use Rattle.desk.proofs.Answered.{answer-sound}
 use Rattle.desk.proofs.Turns.{no-byte, rest, turn}
 
+infixr 5 _joined_
+-- two runs as one: the answers of both, and where the second then stands
+abbrev pub _joined_ : Ran → Ran → Ran
+first joined more = record { answers = first .answers ++ more .answers; place = more .place; stopped = more .stopped; book = more .book }
+
 infixr 4 _onward_
 -- a run and what follows it: nothing where it stopped, else what runs from where it stands and with its book
 abbrev pub _onward_ : Ran → (ℕ → Book → Ran) → Ran
-first onward next =
-    let more = next (first .place) (first .book) in
-    cond (first .stopped) first (record { answers = first .answers ++ more .answers; place = more .place; stopped = more .stopped; book = more .book })
+first onward next = cond (first .stopped) first (first joined next (first .place) (first .book))
 
 -- an answer before a run stands before what follows it too
 answer-first : (answer : Answered) (first : Ran) (next : ℕ → Book → Ran) → ((answer before first) onward next) ≡ (answer before (first onward next))
-answer-first answer first next = go (first .stopped)
+answer-first answer first next = go (first .stopped) (next (first .place) (first .book))
   where
-    more : Ran
-    more = next (first .place) (first .book)
-
-    on : Ran → Ran
-    on run = record { answers = run .answers ++ more .answers; place = more .place; stopped = more .stopped; book = more .book }
-
-    go : (stops : Bool) → cond stops (answer before first) (on (answer before first)) ≡ (answer before cond stops first (on first))
-    go true = refl
-    go false = refl
+    go : (stops : Bool) (more : Ran) → cond stops (answer before first) ((answer before first) joined more) ≡ (answer before cond stops first (first joined more))
+    go true more = refl
+    go false more = refl
 
 pub goes-onward : (m n : ℕ) (s : List ℕ) (place : ℕ) (b : Book) → runFrom (m + n) s place b ≡ (runFrom m s place b onward runFrom n s)
 unfolding runFrom

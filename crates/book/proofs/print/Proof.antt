@@ -1,13 +1,13 @@
 -- `print` meets its contract. The invariant: what is written and the lines to come from where the book in hand stands are all that is printed. A turn answers and writes the page that comes next.
 use mathlib.Core.Path.{_≡_, sym, ap, subst, _∙_}
-use mathlib.Core.Bool.{Bool, false, cond}
-use mathlib.Core.List.{List, []}
+use mathlib.Core.Bool.{false}
+use mathlib.Core.List.{List}
 use mathlib.Core.Logic.{⊎-elim}
 use Prim.Native.Nat.{ℕ, suc, _+_, _*_, _-_, _≤_, _<_}
 use native.Mathlib.Omega.{arith}
 use borrow.Author.Needs.{needs}
 use lib.IntN.{ℤ}
-use lib.ListN.{length, take, drop, length-take}
+use lib.ListN.{length, take, drop}
 use lib.Seq.{length-take-le, take-at}
 use Rattle.account.specs.declared.judged.Verdict.the-variants.{Accepted}
 use Rattle.set_up.specs.Sound.{SoundBook}
@@ -107,6 +107,9 @@ module _ (c : tie.After-lines Inv-loop μ-loop) where
   is-page : shown ≡ page
   is-page = lines-left (ran on) (run on) _ _ _ _ (left on) (suc first)
 
+  on-page : take (c .lines .result) (c .lines .last .1 .1 .1 .0) ≡ page
+  on-page = ap (take (c .lines .result)) (c .lines .ensures .1 .0) ∙ take-at shown _ (c .lines .result) (sym (c .lines .ensures .0)) ∙ is-page
+
   long : c .lines .result ≡ length page
   long = c .lines .ensures .0 ∙ ap length is-page
 
@@ -119,9 +122,8 @@ put-requires : tie.Need-put-requires Inv-loop μ-loop
 put-requires c κs =
     let put = c .before .before in
     let written = loop (on put) .loop .written in
-    let is = ap (take (put .lines .result)) (put .lines .ensures .1 .0) ∙ take-at (shown put) _ (put .lines .result) (sym (put .lines .ensures .0)) ∙ is-page put in
-    is
-    ∙ sym (ap (λ (k : ℕ). take k (drop written (printedFor (bytes (on put))))) (ap length is)
+    on-page put
+    ∙ sym (ap (λ (k : ℕ). take k (drop written (printedFor (bytes (on put))))) (ap length (on-page put))
     ∙ page-next (bytes (on put)) (first put) written (loop (on put) .loop .place) (loop (on put) .loop .book) (loop (on put) .loop .inv .0))
 
 returns : tie.Need-returns Inv-loop μ-loop

@@ -1,4 +1,4 @@
-//! Books of next to nothing, and books at the 65,536th byte.
+//! Books of next to nothing, books at the end of a page of lines, and books at the 65,536th byte.
 
 use super::{cancel, deposit, lock, opened, told, told_with, Row, Telling};
 use plain::entry::Entry;
@@ -33,7 +33,28 @@ pub fn books() -> Vec<Telling> {
     }
     books.extend([8, 6, 4, 2].map(|read| cut_within("a deposit", &deposit(1), read)));
     books.push(cut_within("a pay-out", &Entry::Pay, 2));
+    books.extend([127, 128, 129, 256].into_iter().flat_map(paged));
     books
+}
+
+/// So many records, each deposit a fen more available, so that a page that began with another book or number would show; by themselves, and
+/// with one of no kind behind them, which ends the run though a record follows.
+fn paged(count: usize) -> [Telling; 2] {
+    let mut rows = opened();
+    let cash = rows[2].2;
+    let deposits = (1..).map(|fen| (deposit(1), 0, cash + fen));
+    rows.extend(deposits.take(count - 3));
+    let unread = [&[8, 0, 0, 0, 1, 0, 0, 0], &record(&deposit(1))[..]].concat();
+    let last = [(2, rows[count - 1].2)];
+    [
+        told(&format!("{count} records"), &rows),
+        told_with(
+            &format!("{count} records and no kind"),
+            &rows,
+            &unread,
+            &last,
+        ),
+    ]
 }
 
 fn record(entry: &Entry) -> Vec<u8> {
