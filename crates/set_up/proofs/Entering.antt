@@ -29,39 +29,40 @@ open-stage Underlyings kind few placed = absurd (omega (arith, inside kind (16 t
 open-stage Contracts kind few placed = absurd (omega (arith, inside kind (17 to 18) placed))
 open-stage Entries kind few placed = refl
 
--- an entry of the account, or one of the three records of set-up
+-- set-up says nothing of an entry: what is asked of its records is answered as for all other kinds
+abbrev Unsaid : Entry → Type 1
+Unsaid entry =
+    (A : Type 0) (underlying : Underlyings·of.Underlying → A) (contract : Contracts·of.Contract → A) (opening : ℕ → A) (other : A) → bySetUp underlying contract opening other entry ≡ other
+
+-- an entry of the account, of which set-up says nothing, or one of the three records of set-up
+told-apart : (P : Entry → Type 0) → ((entry : Entry) → codeOf (kindOf entry) < 16 → Unsaid entry → P entry) → ((row : Underlyings·of.Underlying) → P (Underlying row))
+    → ((row : Contracts·of.Contract) → P (Contract row)) → ((cash : ℕ) → P (Opening cash)) → (entry : Entry) → P entry
+told-apart P booked underlying contract opening (Deposit amount) = booked (Deposit amount) (omega arith) (λ A u c o other. refl)
+told-apart P booked underlying contract opening (Withdraw amount) = booked (Withdraw amount) (omega arith) (λ A u c o other. refl)
+told-apart P booked underlying contract opening (Lock u units) = booked (Lock u units) (omega arith) (λ A u c o other. refl)
+told-apart P booked underlying contract opening (Unlock u units) = booked (Unlock u units) (omega arith) (λ A u c o other. refl)
+told-apart P booked underlying contract opening (Order o) = booked (Order o) (omega arith) (λ A u c o other. refl)
+told-apart P booked underlying contract opening (Fill fill) = booked (Fill fill) (omega arith) (λ A u c o other. refl)
+told-apart P booked underlying contract opening (Cancel number) = booked (Cancel number) (omega arith) (λ A u c o other. refl)
+told-apart P booked underlying contract opening (DayEnd n m) = booked (DayEnd n m) (omega arith) (λ A u c o other. refl)
+told-apart P booked underlying contract opening Pay = booked Pay (omega arith) (λ A u c o other. refl)
+told-apart P booked underlying contract opening Drop = booked Drop (omega arith) (λ A u c o other. refl)
+told-apart P booked underlying contract opening (Underlying row) = underlying row
+told-apart P booked underlying contract opening (Contract row) = contract row
+told-apart P booked underlying contract opening (Opening cash) = opening cash
+
 pub each-entry : (P : Entry → Type 0) → ((entry : Entry) → codeOf (kindOf entry) < 16 → P entry) → ((row : Underlyings·of.Underlying) → P (Underlying row))
     → ((row : Contracts·of.Contract) → P (Contract row)) → ((cash : ℕ) → P (Opening cash)) → (entry : Entry) → P entry
-each-entry P booked underlying contract opening (Deposit amount) = booked (Deposit amount) (omega arith)
-each-entry P booked underlying contract opening (Withdraw amount) = booked (Withdraw amount) (omega arith)
-each-entry P booked underlying contract opening (Lock u units) = booked (Lock u units) (omega arith)
-each-entry P booked underlying contract opening (Unlock u units) = booked (Unlock u units) (omega arith)
-each-entry P booked underlying contract opening (Order o) = booked (Order o) (omega arith)
-each-entry P booked underlying contract opening (Fill fill) = booked (Fill fill) (omega arith)
-each-entry P booked underlying contract opening (Cancel number) = booked (Cancel number) (omega arith)
-each-entry P booked underlying contract opening (DayEnd n m) = booked (DayEnd n m) (omega arith)
-each-entry P booked underlying contract opening Pay = booked Pay (omega arith)
-each-entry P booked underlying contract opening Drop = booked Drop (omega arith)
-each-entry P booked underlying contract opening (Underlying row) = underlying row
-each-entry P booked underlying contract opening (Contract row) = contract row
-each-entry P booked underlying contract opening (Opening cash) = opening cash
+each-entry P booked = told-apart P (λ entry few unsaid. booked entry few)
 
--- of the first, nothing is said by set-up
 pub no-set-up : {A : Type 0} (underlying : Underlyings·of.Underlying → A) (contract : Contracts·of.Contract → A) (opening : ℕ → A) (other : A) (entry : Entry)
     → codeOf (kindOf entry) < 16 → bySetUp underlying contract opening other entry ≡ other
-no-set-up underlying contract opening other (Deposit amount) few = refl
-no-set-up underlying contract opening other (Withdraw amount) few = refl
-no-set-up underlying contract opening other (Lock u units) few = refl
-no-set-up underlying contract opening other (Unlock u units) few = refl
-no-set-up underlying contract opening other (Order o) few = refl
-no-set-up underlying contract opening other (Fill fill) few = refl
-no-set-up underlying contract opening other (Cancel number) few = refl
-no-set-up underlying contract opening other (DayEnd n m) few = refl
-no-set-up underlying contract opening other Pay few = refl
-no-set-up underlying contract opening other Drop few = refl
-no-set-up underlying contract opening other (Underlying row) few = absurd (omega arith)
-no-set-up underlying contract opening other (Contract row) few = absurd (omega arith)
-no-set-up underlying contract opening other (Opening cash) few = absurd (omega arith)
+no-set-up {A} underlying contract opening other =
+    told-apart (λ entry. codeOf (kindOf entry) < 16 → bySetUp underlying contract opening other entry ≡ other)
+    (λ entry few unsaid below. unsaid A underlying contract opening other)
+    (λ row below. absurd (omega arith))
+    (λ row below. absurd (omega arith))
+    (λ cash below. absurd (omega arith))
 
 module _ (b : Book) (f : Figures) (entry : Entry) (few : codeOf (kindOf entry) < 16) where
   pub entry-verdict : verdict b f entry ≡ refusalOf (b .tables) (b .account) entry f

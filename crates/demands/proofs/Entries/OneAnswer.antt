@@ -4,6 +4,7 @@ use Prim.Native.Nat.{ℕ}
 use native.Mathlib.Omega.{arith}
 use lib.ListN.{List·getD-map}
 use Rattle.terms.specs.Refusals.{numberOf}
+use Rattle.terms.proofs.Refusals.{some-number}
 use Rattle.rules.specs.Netting.{againstCovered, againstShort, netted}
 use Rattle.entries.specs.declared.entry.Entry.{Entry}
 use Rattle.entries.specs.declared.entry.Entry.the-variants.{DayEnd}
@@ -26,7 +27,6 @@ use Rattle.set_up.specs.declared.stages.Book.{Book}
 use Rattle.desk.specs.Runs.{answerBy, answerTo, availableIn}
 use Rattle.desk.proofs.Answered.{answer-sound}
 use Rattle.demands.specs.EveryEntry.{AfterEntry, AsRuled}
-use Rattle.demands.proofs.Answers.PaperNumbers.{refusal-number}
 
 as-ruled : (t : Tables) (a : Account) → Sound t a → AsRuled t a
 as-ruled t a s = record { margin = s .margin; holds = s .holds; rights = s .rights; total = s .total; daily = s .daily }
@@ -44,7 +44,7 @@ module _ (b : Book) (f : Figures) where
       go : (v : Verdict) → numberIn (enteredAs v b (bookAfter b (DayEnd n m) f) .verdict) ≡ 0
           → position (enteredAs v b (bookAfter b (DayEnd n m) f) .book .account) c ≡ netted (position (b .account) c)
       go Verdict·of.Accepted e = day-nets _ (b .account) c
-      go (Verdict·of.Refused why) e = absurd (omega (arith, refusal-number why, e))
+      go (Verdict·of.Refused why) e = absurd (omega (arith, some-number why, e))
 
   entered-refused : (entry : Entry) → (numberIn (entered b entry f .verdict) ≡ 0 → ⊥) → entered b entry f .book ≡ b
   unfolding entered
@@ -90,6 +90,6 @@ answer-told b reading sound = go (reading .answer) refl (answer-sound b reading 
           available = refl;
           booked = λ entry len e′. let never : _≡_ {A = ℕ} 0 1 = cc in absurd (omega arith);
           unread = λ why′ place′ e′. let same : why ≡ why′ = cc in (ap numberOf same, refl);
-          netting = λ n m len e′ zero c. absurd (omega (arith, refusal-number why));
+          netting = λ n m len e′ zero c. absurd (omega (arith, some-number why));
           refused = λ never. refl;
         }

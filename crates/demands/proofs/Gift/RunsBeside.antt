@@ -5,6 +5,7 @@ use Prim.Native.Nat.{ℕ, zero, suc, _+_, _≤_, _<_}
 use native.Mathlib.Decide.{decLt}
 use native.Mathlib.Omega.{arith}
 use lib.ListN.{length}
+use Rattle.terms.proofs.Refusals.{some-number}
 use Rattle.entries.specs.declared.entry.Entry.{Entry}
 use Rattle.reading.specs.Reading.{readAt}
 use Rattle.reading.specs.declared.Answer.{Answer}
@@ -18,14 +19,13 @@ use Rattle.desk.specs.Runs.{Ran, ended, runFrom}
 use Rattle.desk.proofs.Turns.{no-byte}
 use Rattle.demands.specs.Each.{Each}
 use Rattle.demands.specs.GiftRuns.{Alike}
-use Rattle.demands.proofs.Answers.PaperNumbers.{refusal-number}
 use Rattle.demands.proofs.Answers.RunsTold.{led, read-goes-on, read-so, unread-ends}
 use Rattle.demands.proofs.Gift.BooksBeside.{Abreast, Room, entered-onward}
 
 -- no refusal has the number 0
 accepted-number : (v : Verdict) → numberIn v ≡ 0 → v ≡ Accepted
 accepted-number Accepted e = refl
-accepted-number (Refused why) e = absurd (omega (arith, refusal-number why, e))
+accepted-number (Refused why) e = absurd (omega (arith, some-number why, e))
 
 -- the numbers of the answers are all 0
 abbrev pub AllAccepted : Ran → Type 0

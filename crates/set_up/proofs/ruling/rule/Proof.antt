@@ -2,7 +2,6 @@
 use mathlib.Core.Path.{_≡_, refl, sym, ap, _∙_}
 use mathlib.Core.List.{List, [], _∷_}
 use Prim.Native.Nat.{ℕ, _<_}
-use native.Mathlib.Omega.{arith}
 use borrow.Author.Needs.{needs}
 use borrow.Author.Tests.{not-false, not-true}
 use types.Run.{OneOf, miss}
@@ -11,13 +10,12 @@ use Rattle.terms.specs.declared.refusal.Refusal.the-variants.{OutOfPlace}
 use Rattle.entries.specs.Entries.{kindOf}
 use Rattle.entries.specs.Table.{codeOf}
 use Rattle.entries.specs.declared.entry.Entry.{Entry}
-use Rattle.entries.specs.declared.entry.Entry.the-variants.{Deposit, Withdraw, Lock, Unlock, Order, Fill, Cancel, DayEnd, Pay, Drop, Underlying, Contract, Opening}
 use Rattle.entries.proofs.entry.Entry as Cases
 use Rattle.set_up.specs.Rulings.{rulingOn}
 use Rattle.set_up.specs.Stages.{inPlace}
 use Rattle.set_up.specs.declared.ruling.Ruling as Rulings
 use Rattle.set_up.specs.declared.ruling.Ruling.the-variants as Ruling
-use Rattle.set_up.proofs.Entering.{open-stage}
+use Rattle.set_up.proofs.Entering.{each-entry, open-stage}
 use Rattle.set_up.proofs.Booking.{as-found, by-kind, entry-ruling, in-its-place}
 use Rattle.set_up.proofs.ruling.rule.Statement.{statement}
 use Rattle.set_up.proofs.ruling.rule.Tie as tie
@@ -27,19 +25,12 @@ abbrev entries : List ℕ
 entries = 0 ∷ 1 ∷ 2 ∷ 3 ∷ 4 ∷ 5 ∷ 6 ∷ 7 ∷ 8 ∷ 9 ∷ []
 
 few-kinds : (entry : Entry) → OneOf entries (tagOf Cases.the-type entry) → codeOf (kindOf entry) < 16
-few-kinds (Deposit amount) one = omega arith
-few-kinds (Withdraw amount) one = omega arith
-few-kinds (Lock u units) one = omega arith
-few-kinds (Unlock u units) one = omega arith
-few-kinds (Order o) one = omega arith
-few-kinds (Fill fill) one = omega arith
-few-kinds (Cancel number) one = omega arith
-few-kinds (DayEnd n m) one = omega arith
-few-kinds Pay one = omega arith
-few-kinds Drop one = omega arith
-few-kinds (Underlying row) one = absurd (miss entries 10 tt one)
-few-kinds (Contract row) one = absurd (miss entries 11 tt one)
-few-kinds (Opening cash) one = absurd (miss entries 12 tt one)
+few-kinds =
+    each-entry (λ entry. OneOf entries (tagOf Cases.the-type entry) → codeOf (kindOf entry) < 16)
+    (λ entry few one. few)
+    (λ row one. absurd (miss entries 10 tt one))
+    (λ row one. absurd (miss entries 11 tt one))
+    (λ cash one. absurd (miss entries 12 tt one))
 
 placed : (c : tie.After-in-place) → let start = c .before .before .before .args in c .in-place .result ≡ inPlace (start .book .stage) (codeOf (kindOf (start .entry)))
 placed c =
