@@ -5,7 +5,7 @@ use Prim.Native.Nat.{ℕ, zero, suc, _+_, _-_, _≤_, _<_}
 use native.Mathlib.Omega.{arith}
 use borrow.Author.Tests.{leb-true, leb-false, le-leb, lt-leb, lt-ltb, le-ltb}
 use lib.Dec.{leb}
-use lib.IntN.{ℤ, pos, negsuc, negℤ, _+ℤ_, _-ℤ_, +ℤ-assoc, +ℤ-comm, negℤ-+ℤ}
+use lib.IntN.{ℤ, pos, negsuc, negℤ, _+ℤ_, _-ℤ_, +ℤ-assoc, +ℤ-comm, negℤ-+ℤ, -ℤ-+ℤ-cancel}
 use lib.Signed.{leZ}
 use Rattle.account.specs.Money.{availableOf}
 use Rattle.account.specs.declared.account.Sheet.{Sheet}
@@ -57,6 +57,15 @@ module _ (s : Sheet) where
   more-cash x =
       ap (_-ℤ pos (s .margin)) (either-order (pos (s .cash)) (pos x) (negℤ (pos (s .holds))))
       ∙ either-order (pos (s .cash) -ℤ pos (s .holds)) (pos x) (negℤ (pos (s .margin)))
+
+  pub more-held : (x : ℕ) → availableOf (record { cash = s .cash; premium = s .premium; holds = s .holds + x; margin = s .margin }) +ℤ pos x ≡ availableOf s
+  unfolding availableOf
+  more-held x =
+      let (cash, holds, margin, more) : ℤ × ℤ × ℤ × ℤ = (pos (s .cash), negℤ (pos (s .holds)), negℤ (pos (s .margin)), negℤ (pos x)) in
+      ap (λ (z : ℤ). cash +ℤ z +ℤ margin +ℤ pos x) (negℤ-+ℤ (pos (s .holds)) (pos x))
+      ∙ ap (λ (z : ℤ). z +ℤ margin +ℤ pos x) (sym (+ℤ-assoc cash holds more))
+      ∙ ap (_+ℤ pos x) (either-order (cash +ℤ holds) more margin)
+      ∙ -ℤ-+ℤ-cancel (availableOf s) (pos x)
 
 -- a sheet with so much in cash, 45 in holds and 60 in margin
 abbrev pub example : ℕ → Sheet

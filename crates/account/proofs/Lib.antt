@@ -25,6 +25,7 @@ pub mod OpeningSound
 pub mod OrderSound
 pub mod Ordered
 pub mod Passed
+pub mod Payouts
 pub mod Placed
 pub mod Received
 pub mod Rows

@@ -7,7 +7,7 @@ pub enum Entry {
     Deposit {
         amount: u64,
     },
-    /// Asks for a pay-out: the amount waits until it is paid or dropped.
+    /// Asks for a payout: the amount waits until it is paid or dropped.
     Withdraw {
         amount: u64,
     },

@@ -12,7 +12,7 @@ pub const SETTLEMENT: RangeInclusive<u64> = 0..=10_000_000;
 pub const UNIT: RangeInclusive<u64> = 100..=100_000;
 pub const QUANTITY: RangeInclusive<u64> = 1..=100;
 pub const LIMIT: RangeInclusive<u64> = 0..=10_000;
-/// A deposit, or a pay-out that is asked for.
+/// A deposit, or a payout that is asked for.
 pub const TRANSFER: RangeInclusive<u64> = 1..=10_000_000_000_000;
 pub const OPENING_CASH: RangeInclusive<u64> = 0..=1_000_000_000_000_000;
 /// Units locked or unlocked at once.

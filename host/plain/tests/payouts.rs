@@ -1,4 +1,4 @@
-//! A pay-out in two steps: what is asked for waits, and is held, until it is paid or dropped.
+//! A payout in two steps: what is asked for waits, and is held, until it is paid or dropped.
 
 use plain::account::Desk;
 use plain::book::Book;

@@ -69,7 +69,7 @@ impl Maker {
         if desk.available() <= 0 && self.chance.percent(10) {
             return format!("deposit {}", self.deposit(desk));
         }
-        // open, record, day end, deposit, pay-out, lock, unlock, cancel, fill, order
+        // open, record, day end, deposit, payout, lock, unlock, cancel, fill, order
         let weights = match self.mood {
             Mood::Mixed => [4, 8, 25, 40, 75, 45, 45, 60, 290, 440],
             Mood::Brisk => [3, 8, 45, 40, 45, 45, 25, 30, 420, 360],

@@ -1,4 +1,4 @@
-//! Random deposits and pay-outs near the edges.
+//! Random deposits and payouts near the edges.
 
 use crate::making::{Maker, MOST_TRANSFER};
 use plain::account::Desk;

@@ -1,4 +1,4 @@
--- What follows from how steps are made: the function that steps gives back sound tables and a sound account, every entry of a list gets an outcome, a refused one leaves tables and account as they were, and a day end keeps the last accepted number.
+-- What follows from how steps are made: the function that steps gives back sound tables and a sound account, every entry of a list gets an outcome, a refused one leaves tables and account as they were, and a day end keeps the last accepted number and what waits.
 use mathlib.Core.Path.{_≡_, refl, ap}
 use mathlib.Core.List.{List, [], _∷_}
 use Prim.Native.Nat.{suc}
@@ -30,6 +30,11 @@ all-answered t a (entry ∷ rest) =
 pub number-kept : (t : Tables) (a : Account) → dayEnded t a .last ≡ a .last
 unfolding dayEnded unitsReleased dailyZero premiumJoined marginAfresh positionsNetted ordersCancelled
 number-kept t a = refl
+
+-- what waits waits on, and nothing else is held
+pub waiting-kept : (t : Tables) (a : Account) → (dayEnded t a .waiting ≡ a .waiting) × (dayEnded t a .sheet .holds ≡ a .waiting)
+unfolding dayEnded unitsReleased dailyZero premiumJoined marginAfresh positionsNetted ordersCancelled
+waiting-kept t a = (refl, refl)
 
 -- what the step's contract asks is what it gives back: a caller that starts at an opening has nothing else to show
 pub sound-again : (κs : _) (a : _) (r : _) (s : _) → stepping.Pre κs a → stepping.Post κs a r s → Sound (r .tables) (r .account)

@@ -14,11 +14,11 @@ pub fn books() -> Vec<Telling> {
     }
     books.extend([
         told("8,192 cancels", &early(cancel(1), MOST_READ)),
-        told("16,384 pay-outs", &early(Entry::Pay, MOST_READ)),
+        told("16,384 payouts", &early(Entry::Pay, MOST_READ)),
     ]);
     let fillings = [
         ("cancels", (cancel(1), 7, 600_000)),
-        ("pay-outs", (Entry::Pay, 19, 600_000)),
+        ("payouts", (Entry::Pay, 19, 600_000)),
     ];
     for (name, row) in fillings {
         for (end, more) in [
@@ -32,7 +32,7 @@ pub fn books() -> Vec<Telling> {
         }
     }
     books.extend([8, 6, 4, 2].map(|read| cut_within("a deposit", &deposit(1), read)));
-    books.push(cut_within("a pay-out", &Entry::Pay, 2));
+    books.push(cut_within("a payout", &Entry::Pay, 2));
     books.extend([127, 128, 129, 256].into_iter().flat_map(paged));
     books
 }
