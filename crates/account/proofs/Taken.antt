@@ -69,7 +69,7 @@ quantity-allowed : (n : ℕ) → 1 ≤ n → n ≤ 100 → (n ∈ rangeOf Quanti
 quantity-allowed n some few = rw (le-leb 1 n some, le-leb n 100 few)
 
 -- a place that is given up is a free one
-pub after-emptied : (r : Resting) (q : ℕ) → 1 ≤ r .number → orderAfter r q .number ≡ 0 → orderAfter r q ≡ free
+after-emptied : (r : Resting) (q : ℕ) → 1 ≤ r .number → orderAfter r q .number ≡ 0 → orderAfter r q ≡ free
 after-emptied r q some = go (eqb (r .left .0) q)
   where
     go : (all : Bool) → cond all free (leaving r (r .left .0 - q)) .number ≡ 0 → cond all free (leaving r (r .left .0 - q)) ≡ free
