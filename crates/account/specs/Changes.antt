@@ -31,22 +31,7 @@ applied a change =
       last = change .last;
     }
 
--- a change of money alone; 64, 32 and 8 are past the last contract, place and underlying and name none (house)
-abbrev pub ofSheet : Sheet → Waiting → ℕ → Change
-ofSheet sheet waiting last =
-    record {
-      sheet = sheet;
-      waiting = waiting;
-      contract = 64;
-      position = noPosition;
-      place = 32;
-      order = free;
-      underlying = 8;
-      holding = noHolding;
-      last = last;
-    }
-
--- a change that moves no position: money, one place and one underlying's holding (house)
+-- a change that moves no position: money, one place and one underlying's holding; 64 is past the last contract and names none (house)
 abbrev pub withoutPosition : Sheet → Waiting → ℕ → Resting → ℕ → Holding → ℕ → Change
 withoutPosition sheet waiting place order underlying holding last =
     record {
@@ -60,6 +45,10 @@ withoutPosition sheet waiting place order underlying holding last =
       holding = holding;
       last = last;
     }
+
+-- a change of money alone: 32 and 8 are past the last place and underlying and name none either (house)
+abbrev pub ofSheet : Sheet → Waiting → ℕ → Change
+ofSheet sheet waiting last = withoutPosition sheet waiting 32 free 8 noHolding last
 
 -- what is decided: the refusal, or the change of an accepted entry; of an accepted day end, that the day ends (house)
 abbrev pub decided : Verdict → Change → Decision

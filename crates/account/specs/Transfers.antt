@@ -30,11 +30,15 @@ depositVerdict s amount =
 unfoldable pub depositChange : Sheet → ℕ → ℕ → Change
 depositChange s last amount = ofSheet (record { cash = s .cash + amount; premium = s .premium; holds = s .holds; margin = s .margin }) Stays last
 
+-- what waits is an amount, so at least 1: 0 says that nothing does (house)
+abbrev pub nothingWaits : ℕ → Bool
+nothingWaits waiting = eqb waiting 0
+
 -- a withdrawal asks, and waits until it is paid or dropped: "one request may wait at a time", "20 for a second request, after 4 and before 14" (#101); "withdrawal greater than available" (Refusal numbers, 14)
 unfoldable pub withdrawVerdict : Sheet → ℕ → ℕ → Verdict
 withdrawVerdict s waiting amount =
     amountAllowed amount else OutOfRange then
-    eqb waiting 0 else AlreadyWaiting then
+    nothingWaits waiting else AlreadyWaiting then
     leZ (pos amount) (availableOf s) else AvailablePassed then
     Accepted
 
@@ -44,7 +48,7 @@ withdrawChange s last amount = ofSheet (record { cash = s .cash; premium = s .pr
 
 -- "19 for 9 or 10 with nothing waiting" (#101)
 unfoldable pub payoutVerdict : ℕ → Verdict
-payoutVerdict waiting = not (eqb waiting 0) else NothingWaiting then Accepted
+payoutVerdict waiting = not (nothingWaits waiting) else NothingWaiting then Accepted
 
 -- kind 9 "pays it out of cash", and it is held no longer; kind 10 "drops it" (#101)
 unfoldable pub payChange : Sheet → ℕ → ℕ → Change
