@@ -1,6 +1,6 @@
 -- A fill takes from a resting order what it moves in the position: an open moves from what rests to what is held, within the same totals; a close takes both off, and both were there. Margin moves with short, and what a sell brings was within the ceiling.
 use mathlib.Core.Path.{_≡_, refl, sym, ap, subst, _∙_}
-use mathlib.Core.Bool.{Bool, true, false, not, _&&_, _||_, and-true, and-false, false≢true}
+use mathlib.Core.Bool.{Bool, true, false, not, _&&_, and-true, and-false, false≢true}
 use Prim.Native.Nat.{ℕ, _+_, _*_, _≤_, _<_}
 use native.Mathlib.Omega.{arith}
 use borrow.Author.Tests.{eqb-true, eq-eqb}

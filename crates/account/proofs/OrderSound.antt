@@ -22,7 +22,7 @@ use Rattle.entries.specs.declared.entry.Order.{Order}
 use Rattle.account.specs.Changes.{applied}
 use Rattle.account.specs.Checks.{orderVerdict}
 use Rattle.account.specs.Orders.{under, orderAllowed, freePlace, factsOf, rested, orderChange}
-use Rattle.account.specs.Rows.{free, noPosition, contract, underlying, position, holding, order}
+use Rattle.account.specs.Rows.{noPosition, contract, underlying, position, holding, order}
 use Rattle.account.specs.Sound.{SoundOrder, Sound}
 use Rattle.account.specs.Sums.{_when_}
 use Rattle.account.specs.Totals.{isOf, countOf, countIn, isKind, isOpen, restingIn, restingOn, rightsIn, totalIn, coveredUnits, reservedUnits, spareUnits}

@@ -1,5 +1,5 @@
 -- What holds of every kind and of every entry, gone through once: a kind's code says the kind, so what holds of each row of the table holds of each kind; an entry's fields are as many as its kind's, and with the kind they say the entry, so an entry that has the day end's code is a day end.
-use mathlib.Core.Path.{_≡_, refl, sym, subst}
+use mathlib.Core.Path.{_≡_, refl, subst}
 use mathlib.Core.Bool.{Bool, true, false, cond}
 use mathlib.Core.List.{List, [], _∷_}
 use Prim.Native.Nat.{ℕ}

@@ -1,7 +1,7 @@
 -- A book stays sound: each accepted row was judged when it came, the opening was within its range, and from then on every entry is a step, which keeps an account sound.
 use mathlib.Core.Path.{_≡_, refl, sym, ap, subst, _∙_}
 use mathlib.Core.Bool.{Bool, true, false, _&&_, false≢true}
-use Prim.Native.Nat.{ℕ, _+_, _≤_, _<_}
+use Prim.Native.Nat.{ℕ, _+_, _<_}
 use native.Mathlib.Omega.{arith}
 use borrow.Author.Tests.{leb-true, lt-ltb, ltb-true}
 use lib.Dec.{leb, ltb}

@@ -1,5 +1,5 @@
 -- A payout is paid or dropped where something waits: nothing waits where the amount is zero, which is the definition's test.
-use mathlib.Core.Path.{_≡_, refl}
+use mathlib.Core.Path.{_≡_}
 use Prim.Native.Nat.{ℕ}
 use borrow.Author.Tests.{eq-eqb, ne-eqb}
 use Rattle.terms.specs.declared.refusal.Refusal.the-variants.{NothingWaiting}

@@ -11,11 +11,8 @@ use Rattle.account.specs.Checks.{orderVerdict}
 use Rattle.account.specs.Orders.{factsOf, orderChange}
 use Rattle.account.specs.Sound.{Sound}
 use Rattle.account.specs.declared.account.Account.{Account}
-use Rattle.account.specs.declared.judged.Change.{Change}
 use Rattle.account.specs.declared.judged.Decision.{Decision}
-use Rattle.account.specs.declared.judged.Decision.the-variants as Decision·of
 use Rattle.account.specs.declared.judged.Facts.{Facts}
-use Rattle.account.specs.declared.judged.Verdict.{Verdict}
 use Rattle.account.specs.declared.judged.Verdict.the-variants.{Accepted}
 use Rattle.account.specs.declared.tables.Tables.{Tables}
 use Rattle.account.proofs.Bounds.{bought-most, holds-most, one-hold, order-figures}

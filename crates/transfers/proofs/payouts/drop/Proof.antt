@@ -1,6 +1,5 @@
 -- `drop` meets its contract: it is refused where nothing waits, and what waits is among the holds, so it can be taken off.
 use mathlib.Core.Path.{ap, _∙_}
-use Prim.Native.Nat.{ℕ}
 use borrow.Author.Needs.{needs}
 use Rattle.account.specs.Changes.{ofSheet}
 use Rattle.account.specs.Transfers.{dropChange}

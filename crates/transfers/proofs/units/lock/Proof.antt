@@ -9,7 +9,6 @@ use Rattle.terms.specs.Ranges.{rangeOf, _∈_}
 use Rattle.terms.specs.declared.measure.Measure.the-variants.{LockedUnits}
 use Rattle.terms.specs.declared.refusal.Refusal.the-variants.{CeilingPassed, OutOfRange}
 use Rattle.account.specs.Locks.{lockChange, lockVerdict, unitsAllowed}
-use Rattle.account.specs.Rows.{holding}
 use Rattle.account.specs.declared.account.Holding.{Holding}
 use Rattle.account.specs.declared.tables.Tables.{Tables}
 use Rattle.account.proofs.Decided.{Checked, changes, fails, goes-on, refuses}

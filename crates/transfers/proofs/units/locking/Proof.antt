@@ -1,7 +1,6 @@
 -- `locking` meets its contract: all but the locked units is as the account has it.
 use mathlib.Core.Path.{_≡_, _∙_}
 use Prim.Native.Nat.{ℕ}
-use borrow.Author.Needs.{needs}
 use Rattle.account.specs.Changes.{withoutPosition}
 use Rattle.account.specs.Locks.{locking}
 use Rattle.account.specs.Rows.{free, holding}

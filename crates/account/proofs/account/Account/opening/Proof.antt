@@ -1,9 +1,7 @@
 -- `opening` meets its contract: each of the 32 places is a free one.
-use mathlib.Core.Path.{ap}
 use borrow.Author.Needs.{needs}
 use lib.ListN.{replicate}
 use Rattle.account.specs.Rows.{noPosition, noHolding}
-use Rattle.account.specs.declared.account.Resting.{Resting}
 use Rattle.account.proofs.account.Account.opening.Statement.{statement}
 use Rattle.account.proofs.account.Account.opening.Tie as tie
 
