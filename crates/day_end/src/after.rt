@@ -25,8 +25,8 @@ struct Worked {
     holdings: [Holding; terms::UNDERLYINGS],
 }
 
-// Orders are cancelled and their holds freed, a payout that waits is held on; positions netted, margin worked at the new figures; covered premium joins cash, daily
-// counts are zero, and the units that cover stay locked.
+// Orders are cancelled and their holds freed, a payout that waits is held on; positions are netted and margin worked at the new
+// figures; covered premium joins cash, daily counts are zero, and the units that cover stay locked.
 pub(crate) fn account_after(tables: Tables, account: Account) -> Account
     requires { ⌜ Sound tables (dayEnded tables account) ⌝ }
     ensures { λ r. ⌜ r ≡ dayEnded tables account ⌝ }

@@ -18,7 +18,6 @@ use Rattle.entries.specs.declared.entry.Entry.{Entry}
 use Rattle.entries.specs.declared.entry.Entry.the-variants.{Underlying, Contract, Opening}
 use Rattle.entries.specs.declared.entry.Figures.{Figures}
 use Rattle.entries.specs.declared.entry.Underlying as Underlyings·of
-use Rattle.account.specs.Opening.{opening}
 use Rattle.account.specs.Rows.{noUnderlying}
 use Rattle.account.specs.Sound.{underlyingAllowed}
 use Rattle.account.specs.Steps.{accountAfter, refusalOf}
@@ -80,8 +79,8 @@ pub both-pass : (passed : Bool) (why : Refusal) (rest : Verdict) → passed ≡ 
 both-pass passed why rest e accepted = rw e accepted
 
 -- a book that waits for rows is not open
-pub not-open : {stage : Stage} → givenAt stage 1 (opening 0) .sheet .cash ≡ 0 → stage ≡ Entries → ⊥
-not-open shut opens = omega (arith, shut, ap (λ (stage : Stage). givenAt stage 1 (opening 0) .sheet .cash) opens)
+pub not-open : {stage : Stage} → inPlace stage 17 ≡ true → stage ≡ Entries → ⊥
+not-open waits opens = true≢false (sym waits ∙ ap (λ (stage : Stage). inPlace stage 17) opens)
 
 -- a row of set-up is in its place before the opening alone
 unopened : (X : ℕ) (stage : Stage) (kind : ℕ) (a : Account) → 16 ≤ kind → inPlace stage kind ≡ true → givenAt stage X a ≡ a

@@ -33,7 +33,7 @@ read-alike {X} e e' (alike, figures) entry len found =
     let lengths : lengthFor (e' .0) ≡ len = alike-length alike ∙ (cc) in
     (e' .0, subst (λ (x : Entry). Alike X x (e' .0)) entries alike, λ i. record { answer = Found (e' .0) (lengths i); figures = figures i })
 
--- behind the last byte nothing is found: a record has at least 8 bytes
+-- behind the last byte nothing is found: a record has at least 4 bytes
 end-unread : (before : List ℕ) (entry : Entry) (len : ℕ) → readAt (before ++ []) (length before) .answer ≡ Found entry len → ⊥
 end-unread before entry len found =
     let within = subst (Within (length (drop (length before) (before ++ [])))) found (read-within (before ++ []) (length before)) in
