@@ -1,6 +1,6 @@
 -- What an accepted fill passed, and what it leaves held: it takes from a resting order, whose share of the hold was among the holds and is no less than a buy pays, since a buy fills at its price or below.
 use mathlib.Core.Path.{_≡_, refl, subst}
-use mathlib.Core.Bool.{Bool, true, false, not, _&&_, _||_, false≢true}
+use mathlib.Core.Bool.{Bool, true, false, _&&_, _||_, false≢true}
 use Prim.Native.Nat.{ℕ, _+_, _-_, _≤_, _<_}
 use native.Mathlib.Nat.{mul-le-mul-left}
 use native.Mathlib.Omega.{arith}
@@ -11,7 +11,7 @@ use Rattle.terms.specs.Ranges.{rangeOf, _∈_}
 use Rattle.terms.specs.declared.kind.OrderKind.{OrderKind}
 use Rattle.terms.specs.declared.kind.OrderKind.the-variants.{BuyOpen, SellClose, SellOpen, BuyClose, CoveredOpen, CoveredClose}
 use Rattle.terms.specs.declared.measure.Measure.the-variants.{Price, Quantity, Money}
-use Rattle.terms.specs.declared.refusal.Refusal.the-variants.{OutOfRange, NoSuchOrder, FillBarred, CeilingPassed, CashBelowZero}
+use Rattle.terms.specs.declared.refusal.Refusal.the-variants.{OutOfRange, NoSuchOrder, FillBarred, CeilingPassed}
 use Rattle.terms.proofs.Ranges.{first-holds, second-holds, inside}
 use Rattle.rules.specs.Count.{forCount}
 use Rattle.rules.specs.Premium.{premiumOf}
@@ -21,7 +21,7 @@ use Rattle.entries.specs.declared.entry.Fill.{Fill}
 use Rattle.entries.specs.declared.entry.Underlying.{Underlying}
 use Rattle.account.specs.Changes.{applied}
 use Rattle.account.specs.Fills.{placeOf, named, priceAllowed, paid, fillVerdict, cashAfter, fillChange}
-use Rattle.account.specs.Money.{holdBy, kindOf}
+use Rattle.account.specs.Money.{holdBy, holdOne, kindOf}
 use Rattle.account.specs.Rows.{contract, underlying, order}
 use Rattle.account.specs.declared.account.Account.{Account}
 use Rattle.account.specs.declared.account.Resting.{Resting}
@@ -29,8 +29,8 @@ use Rattle.account.specs.declared.judged.Named.{Named}
 use Rattle.account.specs.declared.judged.Verdict.the-variants.{Accepted}
 use Rattle.account.specs.declared.tables.Tables.{Tables}
 use Rattle.account.proofs.Held.{Held}
-use Rattle.account.proofs.Passed.{met-passed, went-on}
-use Rattle.account.proofs.Taken.{found, Takes, held-taken}
+use Rattle.account.proofs.Passed.{went-on}
+use Rattle.account.proofs.Taken.{found, Takes, held-taken, holds-taken}
 
 -- what an accepted fill passed, as far as soundness and its differences rest on it
 pub record FillPassed (f : Named) (fill : Fill) : Type 0 where
@@ -38,7 +38,6 @@ pub record FillPassed (f : Named) (fill : Fill) : Type 0 where
   pub enough : fill .quantity ≤ f .order .left .0
   pub price : buysOf (kindOf (f .order)) ≡ true → fill .price ≤ f .order .price
   pub ceiling : buysOf (kindOf (f .order)) ≡ false → f .sheet .cash + f .sheet .premium + paid f fill ≤ 1_000_000_000_000_000
-  pub cash : buysOf (kindOf (f .order)) ≡ true → paid f fill ≤ f .sheet .cash
 
 pub fill-passed : (f : Named) (fill : Fill) → fillVerdict f fill ≡ Accepted → FillPassed f fill
 unfolding fillVerdict
@@ -50,14 +49,12 @@ fill-passed f fill e =
     let range = went-on ((fill .quantity ∈ rangeOf Quantity) && (fill .price ∈ rangeOf Price)) OutOfRange _ e in
     let place = went-on (ltb (f .place) 32) NoSuchOrder _ (range .1) in
     let bar = went-on (within && priced) FillBarred _ (place .1) in
-    let ceiling = went-on (buys || (total ∈ rangeOf Money)) CeilingPassed _ (bar .1) in
-    let cash = went-on (not buys || leb (paid f fill) (f .sheet .cash)) CashBelowZero Accepted (ceiling .1) in
+    let ceiling = went-on (buys || (total ∈ rangeOf Money)) CeilingPassed Accepted (bar .1) in
     record {
       there = ltb-true _ _ (place .0);
       enough = leb-true _ _ (first-holds within priced (bar .0));
       price = λ pays. leb-true _ _ (subst (λ (b : Bool). priceAllowed b (f .order .price) (fill .price) ≡ true) pays (second-holds within priced (bar .0)));
       ceiling = λ sells. inside total (rangeOf Money) (subst (λ (b : Bool). (b || (total ∈ rangeOf Money)) ≡ true) sells (ceiling .0)) .1;
-      cash = λ pays. leb-true _ _ (met-passed buys (leb (paid f fill) (f .sheet .cash)) (cash .0) pays);
     }
 
 -- a buy pays the premium at its own price or below, so at most its share of the hold
@@ -96,12 +93,20 @@ module _ (t : Tables) (a : Account) (fill : Fill) (held : Held t a) (p : FillPas
         enough = p .enough;
       }
 
+  its-share : buysOf (kindOf r) ≡ true → paid (named t a (fill .number)) fill ≤ forCount (fill .quantity) (holdOne t (kindOf r) (r .contract) (r .price))
+  unfolding named
+  its-share pays =
+      let k = contract t (r .contract) in
+      pays-its-share (kindOf r) k (underlying t (k .underlying)) (fill .price) (r .price) (fill .quantity) pays (p .price pays)
+
+  -- that share is among the holds, and cash reaches for them: no fill brings cash below zero (#112)
+  pub fill-reached : let f = named t a (fill .number) in buysOf (kindOf (f .order)) ≡ true → paid f fill ≤ f .sheet .cash
+  unfolding named
+  fill-reached pays = omega (arith, its-share pays, holds-taken fill-takes, held .holds, held .reach)
+
   reach-after : after .sheet .holds ≤ after .sheet .cash
   unfolding applied fillChange named
-  reach-after =
-      let k = contract t (r .contract) in
-      still-reaches (kindOf r) (a .sheet .cash) _ (a .sheet .holds) _ (held .reach)
-      (λ pays. pays-its-share (kindOf r) k (underlying t (k .underlying)) (fill .price) (r .price) (fill .quantity) pays (p .price pays))
+  reach-after = still-reaches (kindOf r) (a .sheet .cash) _ (a .sheet .holds) _ (held .reach) its-share
 
   pub fill-held : Held t after
   unfolding applied fillChange named

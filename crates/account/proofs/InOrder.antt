@@ -16,7 +16,7 @@ use Rattle.terms.specs.declared.kind.OrderKind.{OrderKind}
 use Rattle.terms.specs.declared.kind.OrderKind.the-variants.{BuyOpen, SellClose, SellOpen, BuyClose, CoveredOpen, CoveredClose}
 use Rattle.terms.specs.declared.measure.Measure.the-variants.{Price, Settlement, Quantity, UnitsAtOnce, Money, LockedUnits}
 use Rattle.terms.specs.declared.refusal.Refusal.{Refusal}
-use Rattle.terms.specs.declared.refusal.Refusal.the-variants.{OutOfRange, NoSuchOrder, FillBarred, CeilingPassed, CashBelowZero, AvailablePassed, SpareTooFew, NothingWaiting, AlreadyWaiting}
+use Rattle.terms.specs.declared.refusal.Refusal.the-variants.{OutOfRange, NoSuchOrder, FillBarred, CeilingPassed, AvailablePassed, SpareTooFew, NothingWaiting, AlreadyWaiting}
 use Rattle.terms.specs.declared.right.Right.{Right}
 use Rattle.terms.specs.declared.right.Right.the-variants.{Call, Put}
 use Rattle.entries.specs.declared.entry.Entry.{Entry}
@@ -132,8 +132,7 @@ fill-told f fill =
     next (both (one (fill .quantity ∈ rangeOf Quantity) OutOfRange refl) (one (fill .price ∈ rangeOf Price) OutOfRange refl))
     (next (one (ltb (f .place) 32) NoSuchOrder refl)
     (next (both (one (leb (fill .quantity) (f .order .left .0)) FillBarred refl) (price-told buys (f .order .price) (fill .price)))
-    (next (one (buys || (brought ∈ rangeOf Money)) CeilingPassed (neither buys (brought ∈ rangeOf Money) refl (ceiling (rangeOf Money .1) brought)))
-    (next (one (not buys || leb (paid f fill) (f .sheet .cash)) CashBelowZero (neither (not buys) (leb (paid f fill) (f .sheet .cash)) (sym (Bool·not-not buys)) refl)) accepted))))
+    (next (one (buys || (brought ∈ rangeOf Money)) CeilingPassed (neither buys (brought ∈ rangeOf Money) refl (ceiling (rangeOf Money .1) brought))) accepted)))
 
 cancel-told : (f : Named) → Told (cancelVerdict f) (cancelTests f)
 unfolding cancelVerdict

@@ -1,4 +1,4 @@
--- What an accepted entry takes off is there: its own check asks for the cash, the spare units and what is left of the order, and a sound account has every resting order's hold among the holds, its close among what is held, its margin among the margin and its buy open among today's count.
+-- What an accepted entry takes off is there: its own check asks for what is available, the spare units and what is left of the order, and a sound account has every resting order's hold among the holds, for which cash reaches, its close among what is held, its margin among the margin and its buy open among today's count.
 use mathlib.Core.Path.{_≡_, refl, sym, ap, _∙_}
 use mathlib.Core.Bool.{true, false, and-true}
 use Prim.Native.Nat.{ℕ, _+_, _≤_, _<_}
@@ -25,7 +25,7 @@ use Rattle.account.specs.declared.judged.Verdict.the-variants.{Accepted}
 use Rattle.account.specs.declared.tables.Tables.{Tables}
 use Rattle.account.proofs.CancelSound as cancels
 use Rattle.account.proofs.FillSound as fills
-use Rattle.account.proofs.Filled.{fill-passed, fill-takes}
+use Rattle.account.proofs.Filled.{fill-passed, fill-reached, fill-takes}
 use Rattle.account.proofs.Held.{sound-held}
 use Rattle.account.proofs.Moved.{margin-moved}
 use Rattle.account.proofs.Passed.{went-on}
@@ -67,7 +67,7 @@ module _ (t : Tables) (a : Account) (fill : Fill) where
       let shifts = margin-moved moves in
       record {
         left = taken .enough;
-        cash = passed .cash;
+        cash = fill-reached t a fill (sound-held s) passed;
         count = moves .enough;
         holds = omega (arith, s .holds, holds-taken taken);
         margin = λ closes. let own = rw (sym (moves .code) ∙ ap kindCode closes) at shifts in omega (arith, s .margin, own);

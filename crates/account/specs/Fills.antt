@@ -1,4 +1,4 @@
--- Fills and cancels: both name a resting order by its number and are judged by it (Orders and fills; Refusal numbers: "Fill: 7, 16, 15, 18. Cancel: 7.").
+-- Fills and cancels: both name a resting order by its number and are judged by it (Orders and fills; Refusal numbers: "Fill: 7, 16, 15, 18. Cancel: 7.", and 18 no more: #112).
 use Prim.Native.Nat.{ℕ, _+_, _-_}
 use mathlib.Core.Bool.{Bool, true, false, cond, not, _&&_, _||_}
 use lib.Dec.{eqb, leb, ltb}
@@ -10,7 +10,7 @@ use Rattle.terms.specs.declared.kind.OrderKind.the-variants.{BuyOpen}
 use Rattle.terms.specs.declared.kind.Side.{Side}
 use Rattle.terms.specs.declared.kind.Side.the-variants.{Long, Short, Covered}
 use Rattle.terms.specs.declared.measure.Measure.the-variants.{Price, Quantity, Money}
-use Rattle.terms.specs.declared.refusal.Refusal.the-variants.{OutOfRange, NoSuchOrder, FillBarred, CeilingPassed, CashBelowZero}
+use Rattle.terms.specs.declared.refusal.Refusal.the-variants.{OutOfRange, NoSuchOrder, FillBarred, CeilingPassed}
 use Rattle.rules.specs.Count.{forCount}
 use Rattle.rules.specs.Premium.{premiumOf}
 use Rattle.entries.specs.declared.entry.Fill.{Fill}
@@ -64,7 +64,7 @@ priceAllowed false limit price = leb limit price
 abbrev pub paid : Named → Fill → ℕ
 paid f fill = forCount (fill .quantity) (premiumOf (fill .price) (f .unit))
 
--- 4, then 7, 16, 15, 18: a sell brings money and may pass the ceiling, a buy pays and may pass cash (Refusal numbers)
+-- 4, then 7, 16, 15: a sell brings money and may pass the ceiling; a buy "pays at most what its order held", so 18 is not asked (Refusal numbers; #112)
 unfoldable pub fillVerdict : Named → Fill → Verdict
 fillVerdict f fill =
     let buys = buysOf (kindOf (f .order)) in
@@ -72,7 +72,6 @@ fillVerdict f fill =
     ltb (f .place) 32 else NoSuchOrder then
     leb (fill .quantity) (f .order .left .0) && priceAllowed buys (f .order .price) (fill .price) else FillBarred then
     buys || (f .sheet .cash + f .sheet .premium + paid f fill ∈ rangeOf Money) else CeilingPassed then
-    not buys || leb (paid f fill) (f .sheet .cash) else CashBelowZero then
     Accepted
 
 -- an open adds to what it moves, a close takes off (Orders and fills)

@@ -77,7 +77,6 @@ fillTests f fill =
     ∷ (buys && fill .price above f .order .price, 16)  -- "a buy may not fill above its price"
     ∷ (not buys && f .order .price above fill .price, 16)  -- "nor a sell below it"
     ∷ (not buys && f .sheet .cash + f .sheet .premium + paid f fill above 1_000_000_000_000_000, 15)  -- "ceilings: cash plus covered premium 10^15"
-    ∷ (buys && paid f fill above f .sheet .cash, 18)  -- "fill would bring cash below zero"
     ∷ []
 
 abbrev pub cancelTests : Named → List (Bool × ℕ)

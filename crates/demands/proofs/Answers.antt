@@ -4,6 +4,7 @@ pub mod EntriesTold
 pub mod EveryInput
 pub mod Lent
 pub mod LentSlices
+pub mod NoEighteen
 pub mod OneOutcome
 pub mod PaperNumbers
 pub mod ReaderTold

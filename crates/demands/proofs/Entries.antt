@@ -5,4 +5,5 @@ pub mod ListOfRecords
 pub mod OneAnswer
 pub mod Posted
 pub mod Stepped
+pub mod WithEighteen
 pub mod WorkedCases

@@ -20,6 +20,10 @@ EachPair P (x ∷ xs) (y ∷ ys) = P x y × EachPair P xs ys
 abbrev pub OneOf : List ℕ → ℕ → Type 0
 OneOf numbers n = member n numbers ≡ true
 
--- what a record of a run may be answered with: 0, or one of the paper's refusals but 17, which is of writing
+-- what a record of a run may be answered with: 0, or one of the paper's refusals but 17, which is of writing, and 18, which is unused (#112)
 abbrev pub runNumbers : List ℕ
-runNumbers = 0 ∷ 1 ∷ 2 ∷ 3 ∷ 4 ∷ 5 ∷ 6 ∷ 7 ∷ 8 ∷ 9 ∷ 10 ∷ 11 ∷ 12 ∷ 13 ∷ 14 ∷ 15 ∷ 16 ∷ 18 ∷ 19 ∷ 20 ∷ []
+runNumbers = 0 ∷ 1 ∷ 2 ∷ 3 ∷ 4 ∷ 5 ∷ 6 ∷ 7 ∷ 8 ∷ 9 ∷ 10 ∷ 11 ∷ 12 ∷ 13 ∷ 14 ∷ 15 ∷ 16 ∷ 19 ∷ 20 ∷ []
+
+-- a number that is not 18, which is unused (#112)
+abbrev pub Not18 : ℕ → Type 0
+Not18 n = n ≡ 18 → ⊥

@@ -8,5 +8,6 @@ pub mod Postings
 pub mod Records
 pub mod Says
 pub mod Staged
+pub mod WithEighteen
 pub mod WorkedCases
 pub mod WrongDesks

@@ -19,7 +19,7 @@ use Rattle.account.specs.declared.judged.Verdict.{Verdict}
 use Rattle.account.specs.declared.judged.Verdict.the-variants.{Accepted, Refused}
 use Rattle.account.specs.declared.tables.Tables.{Tables}
 use Rattle.rows.specs.Given.{listVerdict}
-use Rattle.set_up.specs.Stages.{entered, newBook, opened, waiting}
+use Rattle.set_up.specs.Stages.{Entered, entered, newBook, opened, waiting}
 use Rattle.set_up.specs.declared.stages.Book.{Book}
 use Rattle.set_up.specs.declared.stages.Stage.{Stage}
 use Rattle.set_up.specs.declared.stages.Stage.the-variants.{Underlyings, Contracts, Entries}
@@ -41,11 +41,13 @@ pub record Answered : Type 0 where
   pub ends : Bool
   pub book : Book
 
+-- what an entered record is answered with (house)
+abbrev pub answerFor : Entered → Answered
+answerFor after = record { number = numberIn (after .verdict); available = availableIn (after .book); ends = false; book = after .book }
+
 -- what the record that was read leads to: an entry is entered; "refusals 1 to 3 end the reading of a book" (Refusal numbers)
 abbrev pub answerBy : Book → Figures → Answer → Answered
-answerBy b f (Answer·of.Found entry len) =
-    let after = entered b entry f in
-    record { number = numberIn (after .verdict); available = availableIn (after .book); ends = false; book = after .book }
+answerBy b f (Answer·of.Found entry len) = answerFor (entered b entry f)
 answerBy b f (Answer·of.Refused why place) = record { number = numberOf why; available = availableIn b; ends = true; book = b }
 
 unfoldable pub answerTo : Book → Reading → Answered
@@ -70,14 +72,17 @@ infixr 5 _before_
 abbrev pub _before_ : Answered → Ran → Ran
 answer before rest = record { answers = (answer .number, answer .available) ∷ rest .answers; place = rest .place; stopped = rest .stopped; book = rest .book }
 
--- from a place of the bytes on, each time where the reader then stands: "it stops after 1, 2 or 3, or when no byte is left", or when no place is left for an answer (Records; Figures to meet; house)
-unfoldable pub runFrom : ℕ → List ℕ → ℕ → Book → Ran
-runFrom zero s place b = ended place b
-runFrom (suc places) s place b =
-    let answer = answerTo b (readAt s place) in
+-- from a place of the bytes on, by how a record is answered, each time where the reader then stands: "it stops after 1, 2 or 3, or when no byte is left", or when no place is left for an answer (Records; Figures to meet; house)
+abbrev pub runBy : (Book → Reading → Answered) → ℕ → List ℕ → ℕ → Book → Ran
+runBy answers zero s place b = ended place b
+runBy answers (suc places) s place b =
+    let answer = answers b (readAt s place) in
     cond (ltb place (length s))
-    (answer before cond (answer .ends) (stoppedAt place (answer .book)) (runFrom places s (foundAt s place .next) (answer .book)))
+    (answer before cond (answer .ends) (stoppedAt place (answer .book)) (runBy answers places s (foundAt s place .next) (answer .book)))
     (ended place b)
+
+unfoldable pub runFrom : ℕ → List ℕ → ℕ → Book → Ran
+runFrom places s place b = runBy answerTo places s place b
 
 -- as many records are answered as both slices have places for (house)
 abbrev pub placesIn : List ℕ → List ℤ → ℕ

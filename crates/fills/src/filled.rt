@@ -1,4 +1,4 @@
-// A fill: 4, 7, 16, 15, 18, or what it moves.
+// A fill: 4, 7, 16, 15, or what it moves.
 use crate::after::moved;
 use crate::after::order_after;
 use crate::after::sheet_after;
@@ -36,7 +36,7 @@ pub fn fill(tables: Tables, account: Account, fill: Fill) -> Decision
     decide(named, fill)
 }
 
-// The order is there and the fill's values are in their ranges. A sell brings money and may pass the ceiling, a buy pays and may pass cash.
+// The order is there and the fill's values are in their ranges. A sell brings money and may pass the ceiling; a buy pays at most its share of the hold, so cash is there.
 fn decide(named: Named, fill: Fill) -> Decision
     requires { ⌜ Fillable named fill ⌝ }
     ensures { λ r. ⌜ r ≡ decided (fillVerdict named fill) (fillChange named fill) ⌝ }
@@ -51,9 +51,6 @@ fn decide(named: Named, fill: Fill) -> Decision
     }
     if !(buys | Measure::Money.allows(sheet.cash + sheet.premium + sum)) {
         return Decision::Refused(Refusal::CeilingPassed);
-    }
-    if !(!buys | (sum <= sheet.cash)) {
-        return Decision::Refused(Refusal::CashBelowZero);
     }
     Decision::Changes(change(named, kind, fill, sum))
 }

@@ -21,6 +21,6 @@ numberOf AvailablePassed = 14  -- hold or withdrawal greater than available
 numberOf CeilingPassed = 15  -- a ceiling passed
 numberOf FillBarred = 16  -- fill above the remainder, or at a price the order bars
 numberOf BufferTooShort = 17  -- writing buffer shorter than the record
-numberOf CashBelowZero = 18  -- fill would bring cash below zero
+numberOf CashBelowZero = 18  -- fill would bring cash below zero; unused, since no fill can (#112)
 numberOf NothingWaiting = 19  -- a payout paid or dropped with nothing waiting (#101)
 numberOf AlreadyWaiting = 20  -- a second request while one waits (#101)

@@ -21,6 +21,7 @@ pub enum Refusal {
     CeilingPassed,
     FillBarred,
     BufferTooShort,
+    // Unused: no fill can bring cash below zero. The number is kept, so that it never means anything else.
     CashBelowZero,
     NothingWaiting,
     AlreadyWaiting,

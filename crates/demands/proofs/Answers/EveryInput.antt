@@ -36,6 +36,7 @@ use Rattle.reader.proofs.Reader.next.Statement as next-statement
 use Rattle.reader.proofs.read_next.Met as read-next-met
 use Rattle.reader.proofs.read_next.Reads as read-next
 use Rattle.reader.proofs.read_next.Statement as read-next-statement
+use Rattle.reader.specs.declared.Read.{Read}
 use Rattle.writing.specs.Writing as writing
 use Rattle.writing.specs.Writing.{bufferAfter, countsBarred, lengthFor, recordOf, writtenFor}
 use Rattle.writing.specs.declared.Written.{Written}
@@ -47,7 +48,7 @@ use Rattle.account.specs.Verdicts.{numberIn}
 use Rattle.account.specs.declared.judged.Verdict.the-variants.{Accepted, Refused}
 use Rattle.rows.specs.Given.{listVerdict}
 use Rattle.set_up.specs.Stages.{newBook}
-use Rattle.desk.specs.Runs.{bookRun, listRun, placesIn}
+use Rattle.desk.specs.Runs.{bookRun, listRun, placesIn, runFrom}
 use Rattle.desk.specs.declared.Run.{Run}
 use Rattle.desk.proofs.run_book.Met as run-book-met
 use Rattle.desk.proofs.run_book.Reads as run-book
@@ -55,6 +56,7 @@ use Rattle.desk.proofs.run_book.Statement as run-book-statement
 use Rattle.desk.proofs.run_list.Met as run-list-met
 use Rattle.desk.proofs.run_list.Reads as run-list
 use Rattle.desk.proofs.run_list.Statement as run-list-statement
+use Rattle.desk.proofs.run_on.Reads as run-on
 use Rattle.demands.specs.Each.{Each, OneOf, runNumbers}
 use Rattle.demands.specs.InOrder.{listTests, readingTests, writingTests}
 use Rattle.demands.specs.Records.{Typed}
@@ -150,6 +152,9 @@ read-numbers κs a r s p = read-among (now (a .0)) (a .1 .0) r p
 pub next-numbers : (κs : _) (a : _) (r : _) (s : _) → NextSays κs a r s → OneOf (0 ∷ 1 ∷ 2 ∷ 3 ∷ []) (reading.numberIn (r .answer))
 next-numbers κs a r s p = read-among (now (now (a .0) .bytes)) (now (a .0) .place) r (p .0)
 
+pub read-next-numbers : (κs : _) (a : _) (r : _) (s : _) → read-next.Post κs a r s → OneOf (0 ∷ 1 ∷ 2 ∷ 3 ∷ []) (reading.numberIn (r .reading .answer))
+read-next-numbers κs a r s p = read-among (now (a .0)) (a .1 .0) (r .reading) (ap (λ (x : Read). x .reading) p)
+
 pub write-numbers : (κs : _) (a : _) (r : _) (s : _) → write.Post κs a r s → OneOf (0 ∷ 3 ∷ 17 ∷ []) (writing.numberIn r)
 write-numbers κs a r s p =
     let said = ap writing.numberIn (p .0) ∙ write-number (a .0) (length (now (a .1 .1 .0))) in
@@ -168,6 +173,9 @@ list-numbers κs a r s p = answered-numbers _ (listRun (a .0) (a .1 .0) (placesI
 
 pub book-numbers : (κs : _) (a : _) (r : _) (s : _) → run-book.Post κs a r s → Each (OneOf runNumbers) (take (r .answered) (now (s .1 .0)))
 book-numbers κs a r s p = answered-numbers _ (bookRun (placesIn (now (a .1 .0)) (now (a .1 .1 .0))) (now (a .0))) r _ _ _ _ p (run-numbers _ _ 0 newBook)
+
+pub on-numbers : (κs : _) (a : _) (r : _) (s : _) → run-on.Post κs a r s → Each (OneOf runNumbers) (take (r .answered) (now (s .1 .1 .1 .0)))
+on-numbers κs a r s p = answered-numbers _ (runFrom (placesIn (now (a .1 .1 .1 .0)) (now (a .1 .1 .1 .1 .0))) (now (a .1 .0)) (a .1 .1 .0) (a .0)) r _ _ _ _ p (run-numbers _ _ _ _)
 
 -- "and a refused entry changes neither the account nor one byte lent to us, except for the answer"
 pub write-refused : (κs : _) (a : _) (r : _) (s : _) → write.Post κs a r s → (writing.numberIn r ≡ 0 → ⊥) → now (s .1 .1 .0) ≡ now (a .1 .1 .0)

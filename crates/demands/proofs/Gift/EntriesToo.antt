@@ -29,7 +29,7 @@ module _ (X : ℕ) (t : Tables) (rows : List Given.Underlying) (roomier : Roomie
   each-too (Lock u units) e room = lock-too X t rows roomier a f u units e
   each-too (Unlock u units) e room = unlock-too X t rows roomier a f u units e
   each-too (Order o) e room = order-too X t rows roomier a f o e
-  each-too (Fill fill) e room = fill-too X t rows roomier a f fill e room
+  each-too (Fill fill) e room = fill-too X t rows roomier a f held fill e room
   each-too (Cancel number) e room = cancel-too X t rows roomier a f number e
   each-too (DayEnd n m) e room = day-end-too X t rows roomier a f n m e
   each-too Pay e room = pay-too X t rows roomier a f held e

@@ -1,6 +1,6 @@
--- The order that a fill or a cancel names is the same on both accounts, with the same share of hold and margin, since those are made of class and close. A buy pays no more than the first's cash, so both pay the same; what a sell brings leaves room for as much more, so the richer account stays within the ceiling.
+-- The order that a fill or a cancel names is the same on both accounts, with the same share of hold and margin, since those are made of class and close. A buy pays at most what its order held, for which the first's cash reaches, so both pay the same; what a sell brings leaves room for as much more, so the richer account stays within the ceiling.
 use mathlib.Core.Path.{_≡_, refl, ap, ap₂}
-use mathlib.Core.Bool.{true, not, _&&_, _||_}
+use mathlib.Core.Bool.{true, _&&_, _||_}
 use mathlib.Core.List.{List}
 use Prim.Native.Nat.{ℕ, _+_, _≤_}
 use native.Mathlib.Omega.{arith}
@@ -10,7 +10,7 @@ use Rattle.terms.specs.Ranges.{rangeOf, _∈_}
 use Rattle.terms.specs.declared.kind.OrderKind.{OrderKind}
 use Rattle.terms.specs.declared.kind.OrderKind.the-variants.{BuyOpen, SellClose, SellOpen, BuyClose, CoveredOpen, CoveredClose}
 use Rattle.terms.specs.declared.measure.Measure.the-variants.{Price, Quantity, Money}
-use Rattle.terms.specs.declared.refusal.Refusal.the-variants.{OutOfRange, NoSuchOrder, FillBarred, CeilingPassed, CashBelowZero}
+use Rattle.terms.specs.declared.refusal.Refusal.the-variants.{OutOfRange, NoSuchOrder, FillBarred, CeilingPassed}
 use Rattle.entries.specs.declared.entry.Entry.the-variants.{Fill, Cancel}
 use Rattle.entries.specs.declared.entry.Figures.{Figures}
 use Rattle.entries.specs.declared.entry.Fill as Given
@@ -25,9 +25,10 @@ use Rattle.account.specs.declared.account.Sheet.{Sheet}
 use Rattle.account.specs.declared.judged.Named.{Named}
 use Rattle.account.specs.declared.judged.Verdict.the-variants.{Accepted}
 use Rattle.account.specs.declared.tables.Tables.{Tables}
-use Rattle.account.proofs.Filled.{fill-passed}
+use Rattle.account.proofs.Filled.{fill-passed, fill-reached}
+use Rattle.account.proofs.Held.{Held}
 use Rattle.demands.specs.Gift.{RoomFor, RoomierTables, richer, richerSheet}
-use Rattle.demands.proofs.Gift.ChecksToo.{check-too, unless-too, under-higher, within-ceiling}
+use Rattle.demands.proofs.Gift.ChecksToo.{check-too, within-ceiling}
 use Rattle.demands.proofs.Gift.Relisted.{Too, withCash, relisted, margin-same, hold-same}
 
 -- what a named order is judged by, with another sheet, hold and margin
@@ -80,20 +81,14 @@ module _ (X : ℕ) (n : Named) (fill : Given.Fill) where
       let sum = paid n fill in
       let kind = kindOf (n .order) in
       let buys = buysOf kind in
-      let first = leb sum (s .cash) in
-      let second = leb sum (s .cash + X) in
-      let cash = check-too (not buys || first) (not buys || second) CashBelowZero Accepted Accepted
-      (unless-too (not buys) first second (under-higher sum (s .cash) (s .cash + X) (omega arith))) (λ same. same) in
-      let ceiling = check-too (buys || (s .cash + s .premium + sum ∈ rangeOf Money)) _ CeilingPassed _ _ (λ less. ceiling-too kind (s .cash) (s .premium) sum X room) cash in
+      let ceiling = check-too (buys || (s .cash + s .premium + sum ∈ rangeOf Money)) _ CeilingPassed Accepted Accepted (λ less. ceiling-too kind (s .cash) (s .premium) sum X room) (λ same. same) in
       let bar = check-too (leb (fill .quantity) (n .order .left .0) && priceAllowed buys (n .order .price) (fill .price)) _ FillBarred _ _ (λ same. same) ceiling in
       let place = check-too (ltb (n .place) 32) _ NoSuchOrder _ _ (λ same. same) bar in
       check-too ((fill .quantity ∈ rangeOf Quantity) && (fill .price ∈ rangeOf Price)) _ OutOfRange _ _ (λ same. same) place e
 
-  fill-changed : (a : Account) → fillVerdict n fill ≡ Accepted → applied (richer X a) (fillChange (endowed X n) fill) ≡ richer X (applied a (fillChange n fill))
+  fill-changed : (a : Account) → (buysOf (kindOf (n .order)) ≡ true → paid n fill ≤ n .sheet .cash) → applied (richer X a) (fillChange (endowed X n) fill) ≡ richer X (applied a (fillChange n fill))
   unfolding applied fillChange
-  fill-changed a e =
-      let kind = kindOf (n .order) in
-      ap (withCash (applied a (fillChange n fill))) (cash-too kind (n .sheet .cash) (paid n fill) X (fill-passed n fill e .cash))
+  fill-changed a reached = ap (withCash (applied a (fillChange n fill))) (cash-too (kindOf (n .order)) (n .sheet .cash) (paid n fill) X reached)
 
 module _ (X : ℕ) (t : Tables) (rows : List Underlying) (roomier : RoomierTables t (relisted t rows)) (a : Account) (f : Figures) where
   named-too : (number : ℕ) → named (relisted t rows) (richer X a) number ≡ endowed X (named t a number)
@@ -106,13 +101,13 @@ module _ (X : ℕ) (t : Tables) (rows : List Underlying) (roomier : RoomierTable
       let same = roomier .rows (k .underlying) in
       ap₂ (namedWith (named t a number) (richerSheet X (a .sheet))) (hold-same (kindOf r) k p q (r .price) same) (margin-same k p q same)
 
-  pub fill-too : (fill : Given.Fill) → refusalOf t a (Fill fill) f ≡ Accepted → RoomFor X (accountAfter t a (Fill fill) f) → Too X t (relisted t rows) a (Fill fill) f
+  pub fill-too : Held t a → (fill : Given.Fill) → refusalOf t a (Fill fill) f ≡ Accepted → RoomFor X (accountAfter t a (Fill fill) f) → Too X t (relisted t rows) a (Fill fill) f
   unfolding refusalOf accountAfter tablesAfter applied
-  fill-too fill e room =
+  fill-too held fill e room =
       let n = named t a (fill .number) in
       record {
         accepted = rw (named-too (fill .number)) (fill-accepted X n fill e room);
-        account = rw (named-too (fill .number)) (fill-changed X n fill a e);
+        account = rw (named-too (fill .number)) (fill-changed X n fill a (fill-reached t a fill held (fill-passed n fill e)));
         tables = roomier;
       }
 

@@ -1,4 +1,4 @@
--- `decide` meets its contract: with the values in range and the order there, the three tests left are the definition's, and an accepted fill is exact.
+-- `decide` meets its contract: with the values in range and the order there, the two tests left are the definition's, and an accepted fill is exact.
 use mathlib.Core.Path.{_≡_, refl, ap, _∙_}
 use mathlib.Core.Bool.{Bool, true, false, not, _&&_, _||_}
 use Prim.Native.Nat.{ℕ, _+_, _*_, _≤_}
@@ -12,7 +12,7 @@ use Rattle.terms.specs.Kinds.{buysOf}
 use Rattle.terms.specs.Ranges.{rangeOf, _∈_}
 use Rattle.terms.specs.declared.kind.OrderKind.{OrderKind}
 use Rattle.terms.specs.declared.measure.Measure.the-variants.{Money}
-use Rattle.terms.specs.declared.refusal.Refusal.the-variants.{FillBarred, CeilingPassed, CashBelowZero}
+use Rattle.terms.specs.declared.refusal.Refusal.the-variants.{FillBarred, CeilingPassed}
 use Rattle.rules.specs.Count.{forCount}
 use Rattle.entries.specs.declared.entry.Fill.{Fill}
 use Rattle.account.specs.Changes.{decided}
@@ -56,9 +56,6 @@ module _ {f : Named} {fill : Fill} {kind : OrderKind} {buys priced : Bool} {sum 
   abbrev total : ℕ
   total = f .sheet .cash + f .sheet .premium + sum
 
-  abbrev covered : Bool
-  covered = not buys || leb sum (f .sheet .cash)
-
   total-small : total ≤ 1_001_000_000_000_000
   total-small =
       let most = tested .can .most in
@@ -66,7 +63,7 @@ module _ {f : Named} {fill : Fill} {kind : OrderKind} {buys priced : Bool} {sum 
       let paying = tested .paying in
       omega (arith, paying, most, ceiling)
 
-  verdict : fillVerdict f fill ≡ (within else FillBarred then (buys || (total ∈ rangeOf Money)) else CeilingPassed then covered else CashBelowZero then Accepted)
+  verdict : fillVerdict f fill ≡ (within else FillBarred then (buys || (total ∈ rangeOf Money)) else CeilingPassed then Accepted)
   unfolding fillVerdict
   verdict =
       let can = tested .can in
@@ -80,18 +77,14 @@ module _ {f : Named} {fill : Fill} {kind : OrderKind} {buys priced : Bool} {sum 
     over fails = rw (verdict, not-false within first, ← bounded, not-true (buys || below) fails) refl
 
     module _ (second : not (buys || below) ≡ false) where
-      short : not covered ≡ true → Refused CashBelowZero ≡ decision
-      short fails = rw (verdict, not-false within first, ← bounded, not-false (buys || below) second, not-true covered fails) refl
+      accepted : fillVerdict f fill ≡ Accepted
+      accepted = rw (verdict, not-false within first, ← bounded, not-false (buys || below) second) refl
 
-      module _ (third : not covered ≡ false) where
-        accepted : fillVerdict f fill ≡ Accepted
-        accepted = rw (verdict, not-false within first, ← bounded, not-false (buys || below) second, not-false covered third) refl
+      exact : Exact f fill kind sum
+      exact = rw (tested .ordered, tested .paying) (tested .can .exact accepted)
 
-        exact : Exact f fill kind sum
-        exact = rw (tested .ordered, tested .paying) (tested .can .exact accepted)
-
-        changed : {change : Change} → change ≡ fillChange f fill → Changes change ≡ decision
-        changed made = rw (accepted, made) refl
+      changed : {change : Change} → change ≡ fillChange f fill → Changes change ≡ decision
+      changed made = rw (accepted, made) refl
 
 -- the function once the price is tested
 module _ (p : tie.After-price-allowed) where
@@ -129,15 +122,10 @@ decide-spec =
     (λ c. let small = total-small (known (c .before .before)) in record { fits = omega (arith, small) })
     (λ c κs. search needs)
     (λ c. over (known (c .before .before .before .before)) (c .before .allows .ensures) (c .before .before .before .if1 .left) (c .if2 .taken))
-    (λ c.
-    let if2 = c .before .before in
-    let if1 = if2 .before .before .before in
-    short (known (if1 .before)) (if2 .before .allows .ensures) (if1 .if1 .left) (if2 .if2 .left) (c .if3 .taken))
     (λ c κs.
-    let if2 = c .before .before in
-    let if1 = if2 .before .before .before in
-    exact (known (if1 .before)) (if2 .before .allows .ensures) (if1 .if1 .left) (if2 .if2 .left) (c .if3 .left))
+    let if1 = c .before .before .before in
+    exact (known (if1 .before)) (c .before .allows .ensures) (if1 .if1 .left) (c .if2 .left))
     (λ c.
-    let if2 = c .before .before .before in
+    let if2 = c .before in
     let if1 = if2 .before .before .before in
-    changed (known (if1 .before)) (if2 .before .allows .ensures) (if1 .if1 .left) (if2 .if2 .left) (c .before .if3 .left) (c .change .ensures)))
+    changed (known (if1 .before)) (if2 .before .allows .ensures) (if1 .if1 .left) (if2 .if2 .left) (c .change .ensures)))
