@@ -24,6 +24,10 @@ OneOf numbers n = member n numbers ≡ true
 abbrev pub runNumbers : List ℕ
 runNumbers = 0 ∷ 1 ∷ 2 ∷ 3 ∷ 4 ∷ 5 ∷ 6 ∷ 7 ∷ 8 ∷ 9 ∷ 10 ∷ 11 ∷ 12 ∷ 13 ∷ 14 ∷ 15 ∷ 16 ∷ 19 ∷ 20 ∷ []
 
+-- and a fill: 0, "4", "7, 16, 15"
+abbrev pub fillNumbers : List ℕ
+fillNumbers = 0 ∷ 4 ∷ 7 ∷ 15 ∷ 16 ∷ []
+
 -- a number that is not 18, which is unused (#112)
 abbrev pub Not18 : ℕ → Type 0
 Not18 n = n ≡ 18 → ⊥

@@ -131,6 +131,17 @@ fn cash_reaches_for_what_waits() {
     );
 }
 
+/// Only by hand can cash be less than what is held; then the fill that would bring it below zero is seen.
+#[test]
+#[should_panic(expected = "no fill brings cash below zero")]
+fn no_fill_brings_cash_below_zero() {
+    let mut desk = opened(100_000);
+    let buy = Entry::order(1, 0, Kind::BuyOpen, 2, 500);
+    book(&mut desk, &[(buy, Ok(()), (0, 100_000, None))]);
+    desk.account.cash -= 1;
+    let _ = desk.step(&Entry::fill(1, 2, 500));
+}
+
 #[test]
 fn before_the_opening_they_are_out_of_place() {
     let mut setting_up = Book::new();

@@ -16,6 +16,8 @@ pub(crate) enum Mood {
     Brisk,
     /// All places for orders get taken.
     Crowd,
+    /// From the opening on nothing is sold short, so that no margin is asked, and most holds take all that is available.
+    Spend,
 }
 
 pub struct Maker {
@@ -47,10 +49,10 @@ impl Maker {
         Maker::knowing(vec![tables.clone()], chance)
     }
 
-    fn knowing(known: Vec<Tables>, chance: Chance) -> Maker {
+    fn knowing(known: Vec<Tables>, mut chance: Chance) -> Maker {
         Maker {
+            mood: first_mood(&mut chance),
             chance,
-            mood: Mood::Mixed,
             focus: Vec::new(),
             ahead: VecDeque::new(),
             known,
@@ -62,7 +64,7 @@ impl Maker {
         if let Some(line) = self.ahead.pop_front() {
             return line;
         }
-        if self.chance.percent(1) {
+        if !self.spends() && self.chance.percent(1) {
             self.mood = self.chance.pick(&[Mood::Mixed, Mood::Brisk, Mood::Crowd]);
         }
         // With nothing left most orders would fail alike.
@@ -74,6 +76,7 @@ impl Maker {
             Mood::Mixed => [4, 8, 25, 40, 75, 45, 45, 60, 290, 440],
             Mood::Brisk => [3, 8, 45, 40, 45, 45, 25, 30, 420, 360],
             Mood::Crowd => [2, 8, 2, 20, 20, 10, 5, 60, 40, 800],
+            Mood::Spend => [2, 8, 10, 20, 60, 60, 20, 40, 420, 360],
         };
         match self.chance.weighted(&weights) {
             0 => self.opening(),
@@ -91,9 +94,14 @@ impl Maker {
 
     pub(crate) fn opening(&mut self) -> String {
         self.focus.clear();
+        self.mood = first_mood(&mut self.chance);
         let cash = opening_cash(&mut self.chance);
         let tables = self.chance.pick(&["", "", " 0", " 1", " 1"]);
         format!("open {cash}{tables}")
+    }
+
+    pub(crate) fn spends(&self) -> bool {
+        matches!(self.mood, Mood::Spend)
     }
 
     /// A contract of the tables, mostly one of the few in focus.
@@ -227,6 +235,10 @@ impl Maker {
         };
         settlements.chain(closes).map(figure).collect()
     }
+}
+
+fn first_mood(chance: &mut Chance) -> Mood {
+    chance.pick(&[Mood::Mixed, Mood::Mixed, Mood::Mixed, Mood::Spend])
 }
 
 /// Up to the most that an opening may have, and past it.

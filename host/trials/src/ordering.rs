@@ -40,9 +40,14 @@ impl Maker {
         let order = Order { quantity, ..wish };
         match order.kind {
             Kind::CoveredOpen if self.chance.percent(40) => self.locked_for(desk, order),
-            _ if order.kind.holds_money() && self.chance.percent(6) => self.paid_for(desk, order),
+            _ if order.kind.holds_money() && self.takes_all() => self.paid_for(desk, order),
             _ => line(&order),
         }
+    }
+
+    fn takes_all(&mut self) -> bool {
+        let often = if self.spends() { 60 } else { 6 };
+        self.chance.percent(often)
     }
 
     /// Every field at random, so that several checks fail at once.
@@ -53,7 +58,7 @@ impl Maker {
         line(&Order {
             number: self.chance.pick(&[0, last, last.saturating_add(1)]),
             contract: self.chance.pick(&[any, any, any, contracts, 64, 65_535]),
-            kind: self.chance.pick(&Kind::ALL),
+            kind: self.any_kind(),
             quantity: self.chance.pick(&[0, 1, 99, 100, 100, 101, u32::MAX]),
             price: self
                 .chance
@@ -107,7 +112,9 @@ impl Maker {
         }
         let call = desk.tables.contracts[usize::from(contract)].right == Right::Call;
         let held = |kind| 0 < desk.closable(contract, kind);
-        let likely = |kind: &Kind| (call || !kind.covered()) && (kind.opens() || held(*kind));
+        let spends = self.spends();
+        let shut = |kind: Kind| (spends && kind == Kind::SellOpen) || (!call && kind.covered());
+        let likely = |kind: &Kind| !shut(*kind) && (kind.opens() || held(*kind));
         let mut likely: Vec<Kind> = Kind::ALL.into_iter().filter(likely).collect();
         if likely.contains(&Kind::CoveredClose) {
             likely.push(Kind::CoveredClose);
@@ -115,7 +122,14 @@ impl Maker {
         if self.chance.percent(93) {
             self.chance.pick(&likely)
         } else {
-            self.chance.pick(&Kind::ALL)
+            self.any_kind()
+        }
+    }
+
+    fn any_kind(&mut self) -> Kind {
+        match self.chance.pick(&Kind::ALL) {
+            Kind::SellOpen if self.spends() => Kind::BuyOpen,
+            kind => kind,
         }
     }
 

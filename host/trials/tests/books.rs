@@ -28,7 +28,7 @@ fn random_books_reach_every_refusal() {
         sizes.insert(bytes.len());
         met.extend(verdicts(&printed(&bytes)));
     }
-    // 17 is for writing, and 18 can't be reached: what a buy pays was held for it.
+    // 17 is for writing, and 18 is unused.
     assert!(met.into_iter().eq((0..=16).chain(19..=20)));
     assert!(sizes.range(..1_000).count() > 50);
     assert!(sizes.range(MOST_READ + 1..).count() > 5);

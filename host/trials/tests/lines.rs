@@ -103,7 +103,7 @@ fn random_lines_reach_every_refusal() {
         assert!(verdict == 0 || edges.desk == before, "{answer}");
         verdicts.insert(verdict);
     }
-    // 18 can't be reached: what a buy pays was held for it.
+    // 18 is unused.
     let reached = [0].into_iter().chain(4..=16).chain(19..=20);
     assert!(verdicts.into_iter().eq(reached));
 }

@@ -8,24 +8,36 @@ use lib.ListN.{take}
 use Rattle.rules.specs.Charges as charges
 use Rattle.rules.proofs.margin.Reads as margin
 use Rattle.rules.proofs.premium.Reads as premium
+use Rattle.entries.specs.Entries.{noFigures}
+use Rattle.entries.specs.declared.entry.Entry.the-variants.{Fill}
+use Rattle.entries.specs.declared.entry.Fill as Given
 use Rattle.reading.specs.Reading as reading
 use Rattle.reading.proofs.read.Reads as read
 use Rattle.reader.proofs.read_next.Reads as read-next
 use Rattle.writing.specs.Writing as writing
 use Rattle.writing.proofs.write.Reads as write
 use Rattle.account.specs.Checks.{member}
+use Rattle.account.specs.Fills.{named}
+use Rattle.account.specs.InOrder.{fillTests}
+use Rattle.account.specs.Sound.{Sound}
+use Rattle.account.specs.Steps.{refusalOf}
 use Rattle.account.specs.Verdicts.{numberIn}
+use Rattle.account.specs.declared.account.Account.{Account}
+use Rattle.account.specs.declared.judged.Verdict.{Verdict}
+use Rattle.account.specs.declared.tables.Tables.{Tables}
+use Rattle.account.proofs.InOrder.{entry-number}
 use Rattle.set_up.specs.Stages.{newBook}
 use Rattle.desk.specs.Runs.{Ran, bookRun}
 use Rattle.desk.proofs.run_book.Reads as run-book
 use Rattle.desk.proofs.run_list.Reads as run-list
 use Rattle.desk.proofs.run_on.Reads as run-on
-use Rattle.demands.specs.Each.{Each, Not18, OneOf, runNumbers}
-use Rattle.demands.specs.WithEighteen.{bookRunWith18}
+use Rattle.demands.specs.Each.{Each, Not18, OneOf, fillNumbers, runNumbers}
+use Rattle.demands.specs.WithEighteen.{bookRunWith18, fillVerdictWith18}
 use Rattle.demands.proofs.Answers.EveryInput.{book-numbers, list-numbers, list-verdict-numbers, margin-numbers, next-numbers, on-numbers, premium-numbers, read-next-numbers, read-numbers, write-numbers}
 use Rattle.demands.proofs.Answers.Lent.{NextSays}
+use Rattle.demands.proofs.Answers.PaperNumbers.{first-among}
 use Rattle.demands.proofs.Answers.RunsTold.{run-numbers}
-use Rattle.demands.proofs.Entries.WithEighteen.{book-same}
+use Rattle.demands.proofs.Entries.WithEighteen.{book-same, fill-same}
 
 module _ (numbers : List ℕ) (unused : member 18 numbers ≡ false) where
   not-18 : {n : ℕ} → OneOf numbers n → Not18 n
@@ -66,7 +78,14 @@ book-not-18 κs a r s p = none-18 runNumbers refl (take (r .answered) (now (s .1
 pub on-not-18 : (κs : _) (a : _) (r : _) (s : _) → run-on.Post κs a r s → Each Not18 (take (r .answered) (now (s .1 .1 .1 .0)))
 on-not-18 κs a r s p = none-18 runNumbers refl (take (r .answered) (now (s .1 .1 .1 .0))) (on-numbers κs a r s p)
 
--- "no book reaches 18": of the desk with the check still in
+-- the desk with the check still in: "no book reaches 18", since no fill of a sound account is refused with it
+pub no-fill-reached-18 : (t : Tables) (a : Account) (fill : Given.Fill) → Sound t a → Not18 (numberIn (fillVerdictWith18 (named t a (fill .number)) fill))
+unfolding refusalOf
+no-fill-reached-18 t a fill sound =
+    let tests = fillTests (named t a (fill .number)) fill in
+    let told = subst (OneOf fillNumbers) (sym (entry-number t a (Fill fill) noFigures)) (first-among fillNumbers tests refl search) in
+    subst (λ (v : Verdict). Not18 (numberIn v)) (sym (fill-same t a fill sound)) (not-18 fillNumbers refl told)
+
 abbrev numbersOf : Ran → List ℕ
 numbersOf run = map (λ answer. answer .0) (run .answers)
 
