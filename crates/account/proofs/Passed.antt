@@ -36,7 +36,7 @@ went-on true why rest e = (refl, e)
 went-on false why rest e = absurd (never e)
 
 -- a check that is met and did not refuse was passed
-pub met-passed : (met passed : Bool) → (not met || passed) ≡ true → met ≡ true → passed ≡ true
+met-passed : (met passed : Bool) → (not met || passed) ≡ true → met ≡ true → passed ≡ true
 met-passed true passed e m = e
 met-passed false passed e m = absurd (false≢true m)
 

@@ -64,7 +64,7 @@ priceAllowed false limit price = leb limit price
 abbrev pub paid : Named → Fill → ℕ
 paid f fill = forCount (fill .quantity) (premiumOf (fill .price) (f .unit))
 
--- 4, then 7, 16, 15: a sell brings money and may pass the ceiling; a buy "pays at most what its order held", so 18 is not asked (Refusal numbers; #112)
+-- 4, then 7, 16, 15: a sell brings money and may pass the ceiling; a buy "pays at most what its order held", so 18 is unused (Refusal numbers; #112)
 unfoldable pub fillVerdict : Named → Fill → Verdict
 fillVerdict f fill =
     let buys = buysOf (kindOf (f .order)) in

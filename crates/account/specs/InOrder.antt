@@ -66,7 +66,7 @@ orderTests t f o =
     ∷ (among o (1 ∷ 3 ∷ 4 ∷ 6 ∷ []) && not (leZ (pos (f .hold)) (f .available)), 14)  -- "hold .. greater than available"
     ∷ []
 
--- a fill and a cancel, by the order that their number names: 32 is past the last place and names none
+-- a fill and a cancel, by the order that their number names: 32 is past the last place and names none; "a fill pays at most what its order held", so 18 is unused (#112)
 abbrev pub fillTests : Named → Fill → List (Bool × ℕ)
 fillTests f fill =
     let buys = buysOf (kindOf (f .order)) in

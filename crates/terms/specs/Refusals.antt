@@ -1,4 +1,4 @@
--- The refusal numbers, in the order and the words of document 01's table (house); from 19 on those of document 02's requests.
+-- The refusal numbers, in the order and the words of document 01's table (house); from 19 on those of document 02's requests, of which #112 leaves 18 unused.
 use Prim.Native.Nat.{ℕ}
 use Rattle.terms.specs.declared.refusal.Refusal.{Refusal}
 use Rattle.terms.specs.declared.refusal.Refusal.the-variants.{CutShort, UnknownKind, Misshapen, OutOfRange, OutOfPlace, StaleNumber, NoSuchOrder, OrdersFull, PositionTooSmall, RightsPassed, TotalPassed, DailyPassed, SpareTooFew, AvailablePassed, CeilingPassed, FillBarred, BufferTooShort, CashBelowZero, NothingWaiting, AlreadyWaiting}
@@ -21,6 +21,6 @@ numberOf AvailablePassed = 14  -- hold or withdrawal greater than available
 numberOf CeilingPassed = 15  -- a ceiling passed
 numberOf FillBarred = 16  -- fill above the remainder, or at a price the order bars
 numberOf BufferTooShort = 17  -- writing buffer shorter than the record
-numberOf CashBelowZero = 18  -- fill would bring cash below zero; unused, since no fill can (#112)
+numberOf CashBelowZero = 18  -- fill would bring cash below zero: none can, and the number stays unused (#112)
 numberOf NothingWaiting = 19  -- a payout paid or dropped with nothing waiting (#101)
 numberOf AlreadyWaiting = 20  -- a second request while one waits (#101)

@@ -1,5 +1,5 @@
-//! Document 01, with document 02's paying out in two steps, written once more in ordinary Rust, from the documents alone: clear rather
-//! than quick, every sum made anew.
+//! Document 01, with document 02's paying out in two steps and its shorter refusal list, written once more in ordinary Rust, from the
+//! documents alone: clear rather than quick, every sum made anew.
 
 pub mod account;
 pub mod book;

@@ -89,6 +89,6 @@ no-fill-reached-18 t a fill sound =
 abbrev numbersOf : Ran → List ℕ
 numbersOf run = map (λ answer. answer .0) (run .answers)
 
-pub no-book-reached-18 : (places : ℕ) (s : List ℕ) → Each Not18 (map (λ answer. answer .0) (bookRunWith18 places s .answers))
+pub no-book-reached-18 : (places : ℕ) (s : List ℕ) → Each Not18 (numbersOf (bookRunWith18 places s))
 no-book-reached-18 places s =
     subst (λ (run : Ran). Each Not18 (numbersOf run)) (sym (book-same places s)) (none-18 runNumbers refl (numbersOf (bookRun places s)) (run-numbers places s 0 newBook))
