@@ -1,7 +1,7 @@
 -- No book ever reached 18, and taking the check out changes no answer: a buy pays at most its share of the hold, that share is among the holds with what waits, and cash reaches for them, so the last check of a fill is passed wherever all others are.
-use mathlib.Core.Path.{_≡_, refl, sym, ap, subst, _∙_}
+use mathlib.Core.Path.{_≡_, refl, sym, ap, _∙_}
 use mathlib.Core.Bool.{Bool, true, false, cond, not, _&&_, _||_}
-use mathlib.Core.List.{List, [], _∷_, _++_, map}
+use mathlib.Core.List.{List, [], _∷_, _++_}
 use Prim.Native.Nat.{ℕ, zero, suc, _+_}
 use native.Mathlib.Omega.{arith}
 use borrow.Author.Tests.{le-leb}
@@ -42,7 +42,6 @@ use Rattle.set_up.proofs.EnteredSound.{list-sound, new-sound}
 use Rattle.set_up.proofs.Entering.{open-stage}
 use Rattle.desk.specs.Runs.{Answered, Ran, _before_, answerBy, answerFor, answerTo, bookRun, ended, listBy, listRun, runBy, runFrom, stoppedAt}
 use Rattle.desk.proofs.Answered.{answer-sound}
-use Rattle.demands.specs.Each.{Each}
 use Rattle.demands.specs.WithEighteen.{answerByWith18, answerWith18, bookRunWith18, fillVerdictWith18, recordVerdictWith18}
 
 -- a check before verdicts that are the same where it is passed
@@ -115,7 +114,7 @@ run-same (suc places) s place b sound =
     ap (λ (x : Answered). turned x (runBy answerWith18 places s (foundAt s place .next) (x .book))) (answer-same b (readAt s place) sound)
     ∙ ap (turned answer) (run-same places s (foundAt s place .next) (answer .book) (answer-sound b (readAt s place) sound))
 
--- "answers do not change": every answer of every book, the place, whether it stopped, and the book at the end
+-- no answer of any book changes, nor where it stops, nor the book at the end
 pub book-same : (places : ℕ) (s : List ℕ) → bookRunWith18 places s ≡ bookRun places s
 book-same places s = run-same places s 0 newBook new-sound
 
