@@ -1,4 +1,4 @@
-//! Sums below zero, the last order number there is, and all places for orders taken.
+//! Sums below zero, fills down to the last fen, the last order number there is, and all places for orders taken.
 
 use super::{call, call_a, cancel, day_end, deposit, fund, opening, stock, withdraw};
 use super::{opened, told, Row, Telling};
@@ -9,6 +9,7 @@ pub fn books() -> Vec<Telling> {
     vec![
         below_zero(),
         far_below_zero(),
+        down_to_the_last_fen(),
         last_number(),
         all_places_taken(),
     ]
@@ -58,6 +59,27 @@ fn far_below_zero() -> Telling {
             (stock(1), 5, -1_209_998_900_000),
         ],
     )
+}
+
+/// A price of 1 is 100 fen. The sell brings as much as order 2 holds and frees nothing of it; then orders 4 and 2 take all but what waits.
+fn down_to_the_last_fen() -> Telling {
+    let order = |number, kind, price| Entry::order(number, 0, kind, 1, price);
+    let rows: [Row; 13] = [
+        (withdraw(100_000), 0, 500_000),
+        (order(1, Kind::BuyOpen, 1), 0, 499_900),
+        (Entry::fill(1, 1, 1), 0, 499_900),
+        (order(2, Kind::BuyOpen, 3_000), 0, 199_900),
+        (order(3, Kind::SellClose, 1), 0, 199_900),
+        (Entry::fill(3, 1, 3_000), 0, 499_900),
+        (order(4, Kind::BuyOpen, 5_000), 14, 499_900),
+        (order(4, Kind::BuyOpen, 4_999), 0, 0),
+        (Entry::fill(4, 1, 4_999), 0, 0),
+        (Entry::fill(2, 1, 3_000), 0, 0),
+        (Entry::Pay, 0, 0),
+        (deposit(1), 0, 1),
+        (withdraw(2), 14, 1),
+    ];
+    told("down to the last fen", &[opened(), rows.to_vec()].concat())
 }
 
 /// Nothing is above it, also once it is gone.
