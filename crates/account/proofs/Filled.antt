@@ -93,6 +93,7 @@ module _ (t : Tables) (a : Account) (fill : Fill) (held : Held t a) (p : FillPas
         enough = p .enough;
       }
 
+  -- the same of the order that a fill names
   its-share : buysOf (kindOf r) ≡ true → paid (named t a (fill .number)) fill ≤ forCount (fill .quantity) (holdOne t (kindOf r) (r .contract) (r .price))
   unfolding named
   its-share pays =

@@ -24,7 +24,7 @@ OneOf numbers n = member n numbers ≡ true
 abbrev pub runNumbers : List ℕ
 runNumbers = 0 ∷ 1 ∷ 2 ∷ 3 ∷ 4 ∷ 5 ∷ 6 ∷ 7 ∷ 8 ∷ 9 ∷ 10 ∷ 11 ∷ 12 ∷ 13 ∷ 14 ∷ 15 ∷ 16 ∷ 19 ∷ 20 ∷ []
 
--- and a fill: 0, "4", "7, 16, 15"
+-- and what a fill may be: 0, or 4, "7, 16, 15" (Refusal numbers)
 abbrev pub fillNumbers : List ℕ
 fillNumbers = 0 ∷ 4 ∷ 7 ∷ 15 ∷ 16 ∷ []
 

@@ -36,7 +36,7 @@ pub fn fill(tables: Tables, account: Account, fill: Fill) -> Decision
     decide(named, fill)
 }
 
-// The order is there and the fill's values are in their ranges. A sell brings money and may pass the ceiling; a buy pays at most its share of the hold, so cash is there.
+// The order is there and the fill's values are in their ranges. A sell brings money and may pass the ceiling; what a buy pays was held for it.
 fn decide(named: Named, fill: Fill) -> Decision
     requires { ⌜ Fillable named fill ⌝ }
     ensures { λ r. ⌜ r ≡ decided (fillVerdict named fill) (fillChange named fill) ⌝ }
