@@ -66,6 +66,6 @@ fn a_million_entries_bring_no_cash_below_zero() {
     println!("{met:?}");
     assert!(10_000 < met.buys);
     for near in [met.held, met.beside_a_payout, met.spent] {
-        assert!(100 < near, "{met:?}");
+        assert!(50 < near, "{met:?}");
     }
 }
