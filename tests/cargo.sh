@@ -1,8 +1,9 @@
-# Calls cargo on the second working, with Debian's own where there is none. Nothing is fetched: no crate comes from a registry.
+# Calls cargo on the second working, with Debian's own where there is none, in the profile that PROFILE names or else in release. Nothing is
+# fetched: no crate comes from a registry.
 set -eu
 cd "$(dirname "$0")/../host"
 if ! command -v cargo >/dev/null; then
     apt-get -qq update
     apt-get -qq install -y cargo >/dev/null
 fi
-exec cargo "$@" --release --offline --quiet
+exec cargo "$@" --profile "${PROFILE:-release}" --offline --quiet

@@ -7,11 +7,11 @@ cd "$(dirname "$0")/.."
 asks=$(awk '
     BEGIN {
         sound = "Sound tables account|SoundTables tables|SoundSheet sheet|SoundPayout sheet waiting|SoundBook book"
-        rests = "FiguresTaken tables figures|Rests tables figures decision|RestsOn book figures ruling"
+        rests = "FiguresTaken tables figures|Rests tables account figures decision|RestsOn book figures ruling"
         room = "Postable (sheet|\\(now sheet\\)) posting"
         may = "^ *requires \\{ ⌜ ((" sound ")( × (" rests "))?|" room ") ⌝ \\}$"
     }
-    FNR == 1 { public = 0; step = FILENAME ~ /^crates\/(postings|money|totals|gathering|orders|resting|fills|transfers|day_end|steps|set_up|desk|edges)\// }
+    FNR == 1 { public = 0; step = FILENAME ~ /^crates\/(postings|money|gathering|orders|resting|fills|transfers|day_end|steps|set_up|desk|edges)\// }
     /^ *(pub(\([a-z]+\))? )?(extern "C" )?fn / { public = /^ *pub / }
     public && /^ *requires/ && !(step && $0 ~ may) { print FILENAME ":" FNR ": " $0 }
 ' $(find crates -name '*.rt'))

@@ -1,6 +1,7 @@
 -- A cancel takes all that is left of one order, so each total over the orders falls by that order's own term and no limit is passed. Its hold was among the holds and its remainder among what was counted today, so both can be taken off; the positions stay.
 use mathlib.Core.Path.{_≡_, refl, sym, ap, _∙_}
 use mathlib.Core.Bool.{and-true}
+use mathlib.Core.Logic.{inl, inr}
 use Prim.Native.Nat.{ℕ, _-_, _≤_, _<_}
 use native.Mathlib.Nat.{le-refl}
 use native.Mathlib.Omega.{arith}
@@ -25,9 +26,11 @@ use Rattle.account.specs.declared.account.Resting.{Resting}
 use Rattle.account.specs.declared.judged.Verdict.the-variants.{Accepted}
 use Rattle.account.specs.declared.tables.Tables.{Tables}
 use Rattle.account.proofs.Allowed.{underlying-known}
+use Rattle.account.proofs.Bounds.{small}
 use Rattle.account.proofs.Held.{Held, sound-held}
 use Rattle.account.proofs.Holdings.{each-holding}
 use Rattle.account.proofs.Kept.{count-kept, margin-kept, covered-kept}
+use Rattle.account.proofs.Movement.{Fits, kept-after}
 use Rattle.account.proofs.Passed.{went-on}
 use Rattle.account.proofs.Taken.{found, Takes, held-taken, resting-order, resting-taken, closing-taken, reserved-taken, resting-after, distinct-taken}
 
@@ -103,9 +106,23 @@ module _ (t : Tables) (a : Account) (number : ℕ) (s : Sound t a) (there : plac
   daily-after : (u : ℕ) → u < t .m → holding after u .bought .0 ≤ underlying t u .daily
   daily-after u h = each (λ h. h .bought .0 ≤ underlying t u .daily) u (λ e. omega (arith, s .daily u h, ap (λ k. holding a k .bought .0) e)) (s .daily u h)
 
+  pub cancel-fits : Fits t a (cancelChange (named t a number))
+  unfolding cancelChange named
+  cancel-fits =
+      record {
+        within = known;
+        held = λ h. absurd (omega (arith, h, s .tables .fewContracts));
+        unheld = λ past. refl;
+        was = inr (refl, refl, refl);
+        is = inl refl;
+        placed = there;
+        known = small s (placeOf a number) there .contract;
+      }
+
   after-sound : Sound t after
   unfolding applied cancelChange named rightsIn totalIn
   after-sound =
+      let kept = kept-after t a (cancelChange (named t a number)) s cancel-fits in
       record {
         tables = s .tables;
         positionRows = length-set (a .positions) 64 noPosition ∙ s .positionRows;
@@ -127,6 +144,11 @@ module _ (t : Tables) (a : Account) (number : ℕ) (s : Sound t a) (there : plac
         emptied = held-after .emptied;
         resting = resting-after taken s;
         distinct = distinct-taken taken s;
+        runningRows = kept .runningRows;
+        closingRows = kept .closingRows;
+        running = kept .running;
+        closing = kept .closing;
+        free = kept .free;
         noMorePositions = λ c h. position-after c ∙ s .noMorePositions c h;
         noMoreHoldings = λ u h. each (_≡ noHolding) u (λ e. absurd (omega (arith, e, known, h))) (s .noMoreHoldings u h);
       }

@@ -13,11 +13,12 @@ use Rattle.terms.specs.declared.kind.Side.the-variants.{Long, Short, Covered}
 use Rattle.terms.specs.declared.right.Right.the-variants.{Put}
 use Rattle.rules.specs.Netting.{netted}
 use Rattle.entries.specs.declared.entry.Figures.{Figures}
-use Rattle.account.specs.DayEnd.{ordersCancelled, positionsNetted, marginAfresh, premiumJoined, dailyZero, unitsReleased, dayEndVerdict, figuresInstalled, dayEnded}
+use Rattle.account.specs.DayEnd.{keptAnew, ordersCancelled, positionsNetted, marginAfresh, premiumJoined, dailyZero, unitsReleased, dayEndVerdict, figuresInstalled, dayEnded}
 use Rattle.account.specs.Money.{marginIn}
 use Rattle.account.specs.Rows.{free, noHolding, noPosition, contract, position, holding}
+use Rattle.account.specs.Running.{allFree, noRunning, running, runningIn}
 use Rattle.account.specs.Sound.{SoundTables, Sound}
-use Rattle.account.specs.Totals.{countIn, isKind, isOpen, rightsIn, totalIn, coveredUnits}
+use Rattle.account.specs.Totals.{countIn, isKind, isOpen, overOrders, rightsIn, totalIn, coveredUnits, reservedUnits}
 use Rattle.account.specs.declared.account.Account.{Account}
 use Rattle.account.specs.declared.account.Holding.{Holding}
 use Rattle.account.specs.declared.judged.Verdict.the-variants.{Accepted}
@@ -28,7 +29,8 @@ use Rattle.account.proofs.Installed.{InRange, figures-passed, installed
 use Rattle.account.proofs.Kept.{margin-kept, covered-kept}
 use Rattle.account.proofs.Listed.{listed-at}
 use Rattle.account.proofs.Netted.{nothing-netted, position-netted, count-less, count-in-less, covered-less}
-use Rattle.account.proofs.NoOrders.{NoOrders, no-orders}
+use Rattle.account.proofs.NoOrders.{NoOrders, all-free, closes-none, no-orders}
+use Rattle.account.proofs.Rows.{untouched}
 use Rattle.account.proofs.Sums.{Σ-none}
 
 -- a holding of so many units, nothing bought yet
@@ -43,9 +45,10 @@ released : (t : Tables) (a : Account) (u : ℕ) → u < 8 → holding (unitsRele
 unfolding unitsReleased
 released t a u h = listed-at 8 (λ v. record { locked = record { 0 = coveredUnits t a v }; bought = holding a v .bought }) u noHolding h
 
-released-positions : (t : Tables) (a : Account) → unitsReleased t a .positions ≡ a .positions
-unfolding unitsReleased
-released-positions t a = refl
+-- what is kept anew is of the same positions and orders
+anew : (t : Tables) (a : Account) (u : ℕ) → u < 8 → running (keptAnew t a) u ≡ runningIn t (keptAnew t a) u
+unfolding keptAnew countIn totalIn coveredUnits reservedUnits overOrders
+anew t a u h = listed-at 8 (runningIn t a) u noRunning h
 
 -- what the steps leave of a, t being the tables with the new figures
 record Ended (t : Tables) (a b : Account) : Type 0 where
@@ -58,19 +61,23 @@ record Ended (t : Tables) (a b : Account) : Type 0 where
   waits : b .waiting ≡ a .waiting
   margin : b .sheet .margin ≡ marginIn t b
   holding : (u : ℕ) → u < 8 → holding b u ≡ covering (coveredUnits t b u)
+  runningRows : length (b .running) ≡ 8
+  running : (u : ℕ) → u < 8 → running b u ≡ runningIn t b u
+  closing : b .closing ≡ replicate 64 noPosition
+  free : b .free ≡ allFree
 
 module _ (t : Tables) (a : Account) where
   pub holding-after : (u : ℕ) → u < 8 → holding (dayEnded t a) u ≡ covering (coveredUnits t (dayEnded t a) u)
-  unfolding dayEnded
+  unfolding dayEnded keptAnew unitsReleased
   holding-after u within =
       let joined = premiumJoined (marginAfresh t (positionsNetted (ordersCancelled a))) in
-      let units = sym (covered-kept t (dailyZero joined) (dayEnded t a) (released-positions t (dailyZero joined)) u) in
+      let units = sym (covered-kept t (dailyZero joined) (dayEnded t a) refl u) in
       let bought = ap (λ (h : Holding). h .bought) (zeroed joined u within) in
       released t (dailyZero joined) u within ∙ (λ i. record { locked = record { 0 = units i }; bought = bought i })
 
   -- where the margin is worked the positions are netted already
   day-ended : Ended t a (dayEnded t a)
-  unfolding dayEnded unitsReleased dailyZero premiumJoined marginAfresh positionsNetted ordersCancelled
+  unfolding dayEnded keptAnew unitsReleased dailyZero premiumJoined marginAfresh positionsNetted ordersCancelled
   day-ended =
       record {
         positions = refl;
@@ -82,6 +89,10 @@ module _ (t : Tables) (a : Account) where
         waits = refl;
         margin = sym (margin-kept t (positionsNetted (ordersCancelled a)) (dayEnded t a) refl);
         holding = holding-after;
+        runningRows = refl;
+        running = anew t (unitsReleased t (dailyZero (premiumJoined (marginAfresh t (positionsNetted (ordersCancelled a))))));
+        closing = refl;
+        free = refl;
       }
 
 -- no order rests, and what waits was held and is so still
@@ -175,6 +186,11 @@ module _ (t : Tables) (a : Account) (f : Figures) (s : Sound t a) (passed : InRa
         emptied = held .emptied;
         resting = λ i h some. absurd (none .numbers i some);
         distinct = λ i j hi hj some same. absurd (none .numbers i some);
+        runningRows = ended .runningRows;
+        closingRows = ap length (ended .closing) ∙ length-replicate 64 noPosition;
+        running = ended .running;
+        closing = λ c h. rw (ended .closing) (untouched 64 c noPosition) ∙ sym (closes-none none c);
+        free = ended .free ∙ sym (all-free new after (ended .orders));
         noMorePositions = λ c h. no-more-positions c (omega (arith, h, same-n t f));
         noMoreHoldings = nothing-locked new a after tables-after ended;
       }

@@ -1,7 +1,8 @@
 -- A fill takes from a resting order what it moves in the position: an open moves from what rests to what is held, within the same totals; a close takes both off, and both were there. Margin moves with short, and what a sell brings was within the ceiling.
 use mathlib.Core.Path.{_≡_, refl, sym, ap, subst, _∙_}
-use mathlib.Core.Bool.{Bool, true, false, not, _&&_, and-true, and-false, false≢true}
-use Prim.Native.Nat.{ℕ, _+_, _*_, _≤_, _<_}
+use mathlib.Core.Bool.{Bool, true, false, not, _&&_, and-true, and-false, false≢true, cond}
+use mathlib.Core.Logic.{inl, inr}
+use Prim.Native.Nat.{ℕ, _+_, _*_, _≤_, _<_, _-_}
 use native.Mathlib.Omega.{arith}
 use borrow.Author.Tests.{eqb-true, eq-eqb}
 use lib.Dec.{eqb, ltb}
@@ -22,10 +23,11 @@ use Rattle.rules.specs.Count.{forCount}
 use Rattle.entries.specs.declared.entry.Fill.{Fill}
 use Rattle.entries.specs.declared.entry.Order.{Order}
 use Rattle.account.specs.Changes.{applied}
-use Rattle.account.specs.Fills.{placeOf, named, fillVerdict, cashAfter, premiumAfter, marginAfter, fillChange}
+use Rattle.account.specs.Fills.{placeOf, named, fillVerdict, cashAfter, premiumAfter, marginAfter, fillChange, orderAfter}
 use Rattle.account.specs.Money.{kindOf, marginOne, marginIn}
 use Rattle.account.specs.Orders.{coveredPut, orderAllowed}
-use Rattle.account.specs.Rows.{noHolding, contract, underlying, position, holding, order}
+use Rattle.account.specs.Rows.{noHolding, contract, underlying, position, holding, order, free}
+use Rattle.account.specs.Running.{ordered}
 use Rattle.account.specs.Sound.{Sound, SoundOrder, asOrder}
 use Rattle.account.specs.Sums.{_when_}
 use Rattle.account.specs.Totals.{isOf, countOf, isKind, isOpen, restingOn, rightsIn, totalIn}
@@ -33,11 +35,12 @@ use Rattle.account.specs.declared.account.Account.{Account}
 use Rattle.account.specs.declared.account.Resting.{Resting}
 use Rattle.account.specs.declared.judged.Verdict.the-variants.{Accepted}
 use Rattle.account.specs.declared.tables.Tables.{Tables}
-use Rattle.account.proofs.Allowed.{contract-known}
+use Rattle.account.proofs.Allowed.{contract-known, underlying-known}
 use Rattle.account.proofs.Filled.{FillPassed, fill-held, fill-passed, fill-takes}
 use Rattle.account.proofs.Held.{Held, sound-held}
 use Rattle.account.proofs.Moved.{closer-of, Moves, position-elsewhere, count-at, count-in, covered-units, margin-moved}
-use Rattle.account.proofs.Taken.{Takes, resting-order, resting-taken, closing-taken, reserved-taken, resting-after, distinct-taken}
+use Rattle.account.proofs.Movement.{Fits, OrderOn, kept-after, ordered-taken}
+use Rattle.account.proofs.Taken.{Takes, leaving, resting-order, resting-taken, closing-taken, reserved-taken, resting-after, distinct-taken}
 
 -- a buy pays from cash; what a sell brings joins cash or premium
 money-within : (kind : OrderKind) (cash premium sum most : ℕ) → cash + premium ≤ most → (buysOf kind ≡ false → cash + premium + sum ≤ most)
@@ -169,9 +172,28 @@ module _ (t : Tables) (a : Account) (fill : Fill) (s : Sound t a) (p : FillPasse
   held-after : Held t after
   held-after = fill-held t a fill held p
 
+  pub fill-fits : Fits t a (fillChange (named t a (fill .number)) fill)
+  unfolding fillChange named
+  fill-fits =
+      let on = ordered-taken r q (taken .some) in
+      record {
+        within = underlying-known t (asOrder r) (allowed .allowed) (s .tables);
+        held = λ h. (refl, refl);
+        unheld = λ past. absurd (omega (arith, past, moves .there));
+        was = inr (refl, refl, sym on);
+        is = still-on (eqb (r .left .0) q) on;
+        placed = p .there;
+        known = omega (arith, on, moves .there, moves .few);
+      }
+    where
+      still-on : (all : Bool) → ordered r (orderAfter r q) ≡ r .contract → OrderOn t a (fillChange (named t a (fill .number)) fill) (cond all free (leaving r (r .left .0 - q)))
+      still-on true on = inl refl
+      still-on false on = inr (refl, refl, sym on)
+
   after-sound : Sound t after
   unfolding applied fillChange named rightsIn
   after-sound =
+      let kept = kept-after t a (fillChange (named t a (fill .number)) fill) s fill-fits in
       record {
         tables = s .tables;
         positionRows = length-set (a .positions) (r .contract) _ ∙ s .positionRows;
@@ -193,6 +215,11 @@ module _ (t : Tables) (a : Account) (fill : Fill) (s : Sound t a) (p : FillPasse
         emptied = held-after .emptied;
         resting = resting-after taken s;
         distinct = distinct-taken taken s;
+        runningRows = kept .runningRows;
+        closingRows = kept .closingRows;
+        running = kept .running;
+        closing = kept .closing;
+        free = kept .free;
         noMorePositions = λ c h. position-elsewhere moves c (λ e. absurd (omega (arith, e, h, moves .there))) ∙ s .noMorePositions c h;
         noMoreHoldings = λ u h. holding-after u ∙ s .noMoreHoldings u h;
       }

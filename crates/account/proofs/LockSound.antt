@@ -30,7 +30,7 @@ pub locking-held : {t : Tables} {a : Account} → Held t a → (u units : ℕ) �
 locking-held held u units = unplaced-held held _ (omega arith) refl (held .reach)
 
 module _ (t : Tables) (a : Account) (u : ℕ) where
-  known : (units : ℕ) (rest : Verdict) → (unitsAllowed t u units else OutOfRange then rest) ≡ Accepted → (u < t .m) × (rest ≡ Accepted)
+  pub known : (units : ℕ) (rest : Verdict) → (unitsAllowed t u units else OutOfRange then rest) ≡ Accepted → (u < t .m) × (rest ≡ Accepted)
   known units rest e =
       let allowed = went-on (unitsAllowed t u units) OutOfRange rest e in
       (ltb-true _ _ (first-holds (ltb u (t .m)) _ (allowed .0)), allowed .1)

@@ -6,8 +6,11 @@ use native.Mathlib.Omega.{arith}
 use lib.Dec.{eqb}
 use lib.ListN.{replicate}
 use Rattle.terms.specs.declared.kind.OrderKind.{OrderKind}
+use Rattle.terms.specs.declared.kind.OrderKind.the-variants.{SellClose, BuyClose, CoveredClose}
 use Rattle.account.specs.Money.{holdOf, holdsIn}
-use Rattle.account.specs.Rows.{free, order}
+use Rattle.account.specs.Rows.{free, noPosition, order}
+use Rattle.account.specs.Running.{allFree, closingOn, freeIn}
+use Rattle.account.specs.Sums.{Σ}
 use Rattle.account.specs.Totals.{isOf, isKind, overOrders, restingIn, restingOn, reservedUnits}
 use Rattle.account.specs.declared.account.Account.{Account}
 use Rattle.account.specs.declared.account.Resting.{Resting}
@@ -44,3 +47,12 @@ module _ (t : Tables) (a : Account) (orders : a .orders ≡ replicate 32 free) w
         reserve = λ u. over _ refl;
         holds = omega (arith, over (holdOf t) (nothing-held t));
       }
+
+  -- each of the 32 digits stands
+  pub all-free : freeIn a ≡ allFree
+  unfolding freeIn Σ
+  all-free = rw orders refl
+
+-- nor does any close rest on a contract
+pub closes-none : {t : Tables} {a : Account} → NoOrders t a → (c : ℕ) → closingOn a c ≡ noPosition
+closes-none none c = λ i. record { long = record { 0 = none .closes SellClose c i }; short = record { 0 = none .closes BuyClose c i }; covered = record { 0 = none .closes CoveredClose c i } }

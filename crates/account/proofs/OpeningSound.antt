@@ -1,6 +1,6 @@
 -- Nothing was put into a row of an opening, so every row is all zero and every total over them is zero, which is within every limit.
 use mathlib.Core.Path.{_≡_, refl, sym, ap, _∙_}
-use Prim.Native.Nat.{ℕ, _≤_}
+use Prim.Native.Nat.{ℕ, _+_, _≤_}
 use native.Mathlib.Nat.{zero-mul}
 use native.Mathlib.Omega.{arith}
 use lib.ListN.{length-replicate}
@@ -13,12 +13,13 @@ use Rattle.rules.specs.Count.{forCount}
 use Rattle.account.specs.Money.{marginOne, marginIn}
 use Rattle.account.specs.Opening.{opening}
 use Rattle.account.specs.Rows.{free, noHolding, noPosition, contract, position, holding}
+use Rattle.account.specs.Running.{noRunning, runningIn}
 use Rattle.account.specs.Sound.{SoundTables, Sound}
 use Rattle.account.specs.Sums.{Σ, _when_}
-use Rattle.account.specs.Totals.{isOf, countOf, countIn, isKind, isOpen, rightsIn, totalIn, coveredUnits}
+use Rattle.account.specs.Totals.{isOf, countOf, countIn, isKind, isOpen, restingIn, rightsIn, totalIn, coveredUnits, reservedUnits}
 use Rattle.account.specs.declared.tables.Tables.{Tables}
 use Rattle.account.proofs.Held.{Held}
-use Rattle.account.proofs.NoOrders.{no-orders}
+use Rattle.account.proofs.NoOrders.{all-free, closes-none, no-orders}
 use Rattle.account.proofs.Placed.{nothing-when}
 use Rattle.account.proofs.Rows.{untouched}
 use Rattle.account.proofs.Sums.{Σ-none}
@@ -46,6 +47,16 @@ module _ (t : Tables) (cash : ℕ) where
   no-covered : (u : ℕ) → coveredUnits t (opening cash) u ≡ 0
   unfolding coveredUnits
   no-covered u = over-positions (λ c p. unitsFor (p .covered) (contract t c .unit) .0 when isOf t u c) (λ c. rw zero-mul (nothing-when (isOf t u c)))
+
+  no-running : (u : ℕ) → runningIn t (opening cash) u ≡ noRunning
+  unfolding totalIn
+  no-running u =
+      let none = no-orders t (opening cash) refl in
+      let long = no-count Long u in
+      let opens = none .resting isOpen u in
+      let total : countIn Long t (opening cash) u + countIn Short t (opening cash) u + countIn Covered t (opening cash) u + restingIn isOpen t (opening cash) u ≡ 0 = omega (arith, long, no-count Short u, no-count Covered u, opens) in
+      let taken : coveredUnits t (opening cash) u + reservedUnits t (opening cash) u ≡ 0 = omega (arith, no-covered u, none .reserve u) in
+      λ i. record { long = record { 0 = long i }; total = record { 0 = total i }; buys = record { 0 = none .resting (isKind BuyOpen) u i }; opens = record { 0 = opens i }; taken = record { 0 = taken i } }
 
   pub opening-held : Held t (opening cash)
   opening-held =
@@ -77,6 +88,11 @@ module _ (t : Tables) (cash : ℕ) where
         emptied = opening-held .emptied;
         resting = λ i h some. absurd (none .numbers i some);
         distinct = λ i j hi hj some same. absurd (none .numbers i some);
+        runningRows = length-replicate 8 noRunning;
+        closingRows = length-replicate 64 noPosition;
+        running = λ u h. untouched 8 u noRunning ∙ sym (no-running u);
+        closing = λ c h. untouched 64 c noPosition ∙ sym (closes-none none c);
+        free = sym (all-free t (opening cash) refl);
         noMorePositions = λ c h. no-position c;
         noMoreHoldings = λ u h. no-holding u;
       }

@@ -1,7 +1,7 @@
 -- An accepted order keeps the account sound: each total grows by the order's own term, in its own underlying or on its own contract, and the check that its kind meets left room for it. Its number is above all that rest, so it names no other order.
 use mathlib.Core.Path.{_≡_, refl, sym, ap, _∙_}
 use mathlib.Core.Bool.{Bool, true, false, _&&_}
-use mathlib.Core.Logic.{_≢_}
+use mathlib.Core.Logic.{_≢_, inl, inr}
 use Prim.Native.Nat.{ℕ, zero, suc, _+_, _*_, _≤_, _<_}
 use native.Mathlib.Decide.{ℕ-discrete}
 use native.Mathlib.Nat.{le-refl}
@@ -21,7 +21,7 @@ use Rattle.terms.proofs.Ranges.{first-holds, second-holds}
 use Rattle.entries.specs.declared.entry.Order.{Order}
 use Rattle.account.specs.Changes.{applied}
 use Rattle.account.specs.Checks.{orderVerdict}
-use Rattle.account.specs.Orders.{under, orderAllowed, freePlace, factsOf, rested, orderChange}
+use Rattle.account.specs.Orders.{under, orderAllowed, freePlace, factsIn, factsOf, rested, orderChange}
 use Rattle.account.specs.Rows.{noPosition, contract, underlying, position, holding, order}
 use Rattle.account.specs.Sound.{SoundOrder, Sound}
 use Rattle.account.specs.Sums.{_when_}
@@ -30,11 +30,12 @@ use Rattle.account.specs.declared.account.Account.{Account}
 use Rattle.account.specs.declared.account.Resting.{Resting}
 use Rattle.account.specs.declared.judged.Verdict.the-variants.{Accepted}
 use Rattle.account.specs.declared.tables.Tables.{Tables}
-use Rattle.account.proofs.Allowed.{underlying-known}
+use Rattle.account.proofs.Allowed.{contract-known, underlying-known}
 use Rattle.account.proofs.Held.{Held, sound-held}
 use Rattle.account.proofs.Kept.{count-kept, margin-kept, covered-kept}
 use Rattle.account.proofs.KindNumbers.{answered-kind, is-kind, is-open}
-use Rattle.account.proofs.Ordered.{after, order-held, placed, resting-after, closing-after, reserved-after, positions-after, locked-after, bought-after, no-more-holdings}
+use Rattle.account.proofs.Movement.{Fits, kept-after, ordered-new}
+use Rattle.account.proofs.Ordered.{after, was-free, order-held, placed, resting-after, closing-after, reserved-after, positions-after, locked-after, bought-after, no-more-holdings}
 use Rattle.account.proofs.Passed.{Passed, facts-known, accepted-passed}
 use Rattle.account.proofs.Placed.{order-there, order-elsewhere, each-order}
 
@@ -141,9 +142,24 @@ module _ (t : Tables) (a : Account) (o : Order) (s : Sound t a) (p : Passed t a 
   held-after : Held t (after t a o)
   held-after = order-held t a o (sound-held s) p
 
+  pub order-fits : Fits t a (orderChange (factsIn t a o) o)
+  unfolding orderChange
+  order-fits =
+      let on = ordered-new (order a (freePlace a)) (rested o) (omega (arith, p .number)) in
+      record {
+        within = underlying-known t o (p .allowed) (s .tables);
+        held = λ h. absurd (omega (arith, h, s .tables .fewContracts));
+        unheld = λ h. refl;
+        was = inl (was-free t a o (sound-held s) p);
+        is = inr (refl, refl, sym on);
+        placed = p .place;
+        known = omega (arith, on, contract-known t o (p .allowed), s .tables .fewContracts);
+      }
+
   after-sound : Sound t (after t a o)
   unfolding applied orderChange
   after-sound =
+      let kept = kept-after t a (orderChange (factsIn t a o) o) s order-fits in
       record {
         tables = s .tables;
         positionRows = length-set (a .positions) 64 noPosition ∙ s .positionRows;
@@ -165,6 +181,11 @@ module _ (t : Tables) (a : Account) (o : Order) (s : Sound t a) (p : Passed t a 
         emptied = held-after .emptied;
         resting = each-order (placed t a o (sound-held s) p) (λ r. 1 ≤ r .number → SoundOrder t (o .number) r) (λ some. rested-sound t o (p .allowed)) (λ i h some. still-sound t (order a i) (p .number) (s .resting i h some));
         distinct = distinct-after;
+        runningRows = kept .runningRows;
+        closingRows = kept .closingRows;
+        running = kept .running;
+        closing = kept .closing;
+        free = kept .free;
         noMorePositions = λ c h. position-after c ∙ s .noMorePositions c h;
         noMoreHoldings = no-more-holdings t a o s p;
       }

@@ -62,7 +62,7 @@ abbrev pub after : Tables → Account → Order → Account
 after t a o = applied a (orderChange (factsIn t a o) o)
 
 module _ (t : Tables) (a : Account) (o : Order) (h : Held t a) (p : Passed t a o) where
-  was-free : order a (freePlace a) ≡ free
+  pub was-free : order a (freePlace a) ≡ free
   unfolding freePlace
   was-free = h .emptied (freePlace a) (p .place) (eqb-true _ _ (lowest-passes 32 (λ i. eqb (order a i .number) 0) (p .place)))
 

@@ -6,6 +6,7 @@ use Prim.Native.Nat.{ℕ, zero, suc, _+_, _*_, _≤_, _<_}
 use native.Mathlib.Nat.{le-of-suc-le-suc, not-suc-le-zero}
 use native.Mathlib.Omega.{arith}
 use borrow.Author.Tests.{leb-true, ltb-true}
+use lib.Dec.{leb}
 use lib.ListN.{length, getD}
 use Rattle.terms.specs.Kinds.{movesOf, opensOf}
 use Rattle.terms.specs.declared.kind.OrderKind.{OrderKind}
@@ -17,6 +18,7 @@ use Rattle.account.specs.Checks.{Check, Values, Number, Places, Closing,
 use Rattle.account.specs.Money.{holdOne}
 use Rattle.account.specs.Orders.{under, orderAllowed, freePlace, factsIn, noFacts, factsOf}
 use Rattle.account.specs.Rows.{contract, underlying, position, holding}
+use Rattle.account.specs.Running.{closingOn}
 use Rattle.account.specs.Totals.{countOf, restingOn, rightsIn, totalIn, spareUnits}
 use Rattle.account.specs.Verdicts.{_else_then_}
 use Rattle.account.specs.declared.account.Account.{Account}
@@ -92,6 +94,15 @@ pub record Passed (t : Tables) (a : Account) (o : Order) : Type 0 where
 
 module _ (t : Tables) (a : Account) (o : Order) where
   -- of an order that is not allowed nothing is known, and the first check fails
+  -- what rests of closes of the count that a close moves is what rests of its kind
+  closing-of : (kind : OrderKind) → opensOf kind ≡ false → countOf (movesOf kind) (closingOn a (o .contract)) ≡ restingOn kind a (o .contract)
+  closing-of BuyOpen never = absurd (false≢true (sym never))
+  closing-of SellClose closes = refl
+  closing-of SellOpen never = absurd (false≢true (sym never))
+  closing-of BuyClose closes = refl
+  closing-of CoveredOpen never = absurd (false≢true (sym never))
+  closing-of CoveredClose closes = refl
+
   facts-allowed : (allowed : Bool) → cond allowed (factsIn t a o) noFacts .allowed ≡ true → allowed ≡ true
   facts-allowed true e = refl
   facts-allowed false e = e
@@ -112,7 +123,7 @@ module _ (t : Tables) (a : Account) (o : Order) where
         allowed = allowed;
         number = ltb-true _ _ (known Number (rows .number));
         place = ltb-true _ _ (known Places (rows .places));
-        closing = λ closes. leb-true _ _ (known Closing (rows .closing ∙ ap not closes));
+        closing = λ closes. leb-true _ _ (subst (λ n. leb (n + o .quantity) (countOf (movesOf (o .kind)) (position a (o .contract))) ≡ true) (closing-of (o .kind) closes) (known Closing (rows .closing ∙ ap not closes)));
         rights = λ buys. leb-true _ _ (known Rights (ap (λ (kind : OrderKind). meets kind Rights) buys));
         total = λ opens. leb-true _ _ (known Total (rows .total ∙ opens));
         daily = λ buys. leb-true _ _ (known Daily (ap (λ (kind : OrderKind). meets kind Daily) buys));

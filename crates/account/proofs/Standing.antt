@@ -1,13 +1,14 @@
 -- Counts, margin, holds and what rests are totals over the positions and the orders alone, so where those stand the account stays sound as long as money, with what waits, and locked units keep within their own bounds.
-use mathlib.Core.Path.{_≡_, _∙_}
+use mathlib.Core.Path.{_≡_, ap, _∙_}
 use mathlib.Core.List.{List}
 use Prim.Native.Nat.{ℕ, _+_, _≤_, _<_}
 use native.Mathlib.Omega.{arith}
-use lib.ListN.{length, set}
-use lib.Seq.{set-out}
-use Rattle.account.specs.Changes.{applied, waitingAfter, withoutPosition}
+use lib.ListN.{length, set, List·getD-eq-default}
+use lib.Seq.{set-out, set-getD}
+use Rattle.account.specs.Changes.{applied, closingAfter, runningAfter, waitingAfter, withoutPosition}
 use Rattle.account.specs.Money.{marginIn}
-use Rattle.account.specs.Rows.{free, noHolding, noPosition, holding}
+use Rattle.account.specs.Rows.{free, noHolding, noPosition, holding, order, position}
+use Rattle.account.specs.Running.{closing, freeIn, noRunning, ordered, running}
 use Rattle.account.specs.Sound.{Sound}
 use Rattle.account.specs.Totals.{countIn, overOrders, rightsIn, totalIn, coveredUnits, reservedUnits}
 use Rattle.account.specs.declared.account.Account.{Account}
@@ -16,11 +17,12 @@ use Rattle.account.specs.declared.account.Sheet.{Sheet}
 use Rattle.account.specs.declared.judged.Waiting.{Waiting}
 use Rattle.account.specs.declared.tables.Tables.{Tables}
 use Rattle.account.proofs.Held.{Held}
+use Rattle.account.proofs.Instead.{closing-unmoved, running-unmoved}
 
 -- the account with another sheet, another payout that waits and other holdings
 abbrev pub standing : Account → Sheet → ℕ → List Holding → Account
 standing a sheet waiting holdings =
-    record { sheet = sheet; waiting = waiting; positions = a .positions; orders = a .orders; holdings = holdings; last = a .last }
+    record { sheet = sheet; waiting = waiting; positions = a .positions; orders = a .orders; holdings = holdings; running = a .running; closing = a .closing; free = a .free; last = a .last }
 
 -- what its money must keep
 pub record Moneyed (t : Tables) (a b : Account) : Type 0 where
@@ -40,7 +42,7 @@ pub record Stocked (t : Tables) (a b : Account) : Type 0 where
 module _ (t : Tables) (a : Account) (s : Sound t a) where
   pub standing-sound : (sheet : Sheet) (waiting : ℕ) (holdings : List Holding) → Moneyed t a (standing a sheet waiting holdings) → Stocked t a (standing a sheet waiting holdings)
       → Sound t (standing a sheet waiting holdings)
-  unfolding marginIn rightsIn totalIn countIn overOrders coveredUnits reservedUnits
+  unfolding marginIn rightsIn totalIn countIn overOrders coveredUnits reservedUnits freeIn
   standing-sound sheet waiting holdings money stock =
       record {
         tables = s .tables;
@@ -63,15 +65,36 @@ module _ (t : Tables) (a : Account) (s : Sound t a) where
         emptied = s .emptied;
         resting = s .resting;
         distinct = s .distinct;
+        runningRows = s .runningRows;
+        closingRows = s .closingRows;
+        running = s .running;
+        closing = s .closing;
+        free = s .free;
         noMorePositions = s .noMorePositions;
         noMoreHoldings = stock .noMore;
       }
 
-  -- no contract has the number 64 and no place the number 32
+  -- no contract has the number 64 and no place the number 32, so nothing is taken off what is kept, and nothing put on
   pub stands : (sheet : Sheet) (waiting : Waiting) (u : ℕ) (h : Holding)
-      → applied a (withoutPosition sheet waiting 32 free u h (a .last)) ≡ standing a sheet (waitingAfter waiting (a .waiting)) (set (a .holdings) u h)
+      → applied a (withoutPosition sheet waiting 32 free 0 u h (a .last)) ≡ standing a sheet (waitingAfter waiting (a .waiting)) (set (a .holdings) u h)
   unfolding applied
   stands sheet waiting u h =
+      let change = withoutPosition sheet waiting 32 free 0 u h (a .last) in
       let positions = set-out (a .positions) 64 noPosition (omega (arith, s .positionRows)) in
       let orders = set-out (a .orders) 32 free (omega (arith, s .orderRows)) in
-      (λ i. record { sheet = sheet; waiting = waitingAfter waiting (a .waiting); positions = positions i; orders = orders i; holdings = set (a .holdings) u h; last = a .last })
+      let no-order : order a 32 ≡ free = List·getD-eq-default (a .orders) free (omega (arith, s .orderRows)) in
+      let no-position : position a 64 ≡ noPosition = s .noMorePositions 64 (s .tables .fewContracts) in
+      let running : set (a .running) u (runningAfter a change) ≡ a .running = rw (no-order, no-position) (ap (set (a .running) u) (running-unmoved (running a u)) ∙ set-getD (a .running) u noRunning) in
+      let closing : set (a .closing) (ordered (order a 32) free) (closingAfter a change) ≡ a .closing = rw no-order (ap (set (a .closing) 0) (closing-unmoved (closing a 0)) ∙ set-getD (a .closing) 0 noPosition) in
+      λ i.
+      record {
+        sheet = sheet;
+        waiting = waitingAfter waiting (a .waiting);
+        positions = positions i;
+        orders = orders i;
+        holdings = set (a .holdings) u h;
+        running = running i;
+        closing = closing i;
+        free = a .free;
+        last = a .last;
+      }

@@ -12,7 +12,8 @@ use Rattle.entries.specs.declared.entry.Contract.{Contract}
 use Rattle.entries.specs.declared.entry.Figures.{Figures}
 use Rattle.entries.specs.declared.entry.Underlying.{Underlying}
 use Rattle.account.specs.Money.{marginIn}
-use Rattle.account.specs.Rows.{free, contract, underlying, holding}
+use Rattle.account.specs.Rows.{free, noPosition, contract, underlying, holding}
+use Rattle.account.specs.Running.{allFree, runningIn}
 use Rattle.account.specs.Totals.{coveredUnits}
 use Rattle.account.specs.Verdicts.{_else_then_}
 use Rattle.account.specs.declared.account.Account.{Account}
@@ -47,10 +48,10 @@ dayEndVerdict t n m f =
 
 -- an account with another sheet, and one with other holdings, all else the same (house)
 abbrev pub withSheet : Account → Sheet → Account
-withSheet a sheet = record { sheet = sheet; waiting = a .waiting; positions = a .positions; orders = a .orders; holdings = a .holdings; last = a .last }
+withSheet a sheet = record { sheet = sheet; waiting = a .waiting; positions = a .positions; orders = a .orders; holdings = a .holdings; running = a .running; closing = a .closing; free = a .free; last = a .last }
 
 abbrev pub withHoldings : Account → (ℕ → Holding) → Account
-withHoldings a each = record { sheet = a .sheet; waiting = a .waiting; positions = a .positions; orders = a .orders; holdings = listed 8 each; last = a .last }
+withHoldings a each = record { sheet = a .sheet; waiting = a .waiting; positions = a .positions; orders = a .orders; holdings = listed 8 each; running = a .running; closing = a .closing; free = a .free; last = a .last }
 
 -- "all orders cancelled": no order rests, and nothing is held but a payout that waits, which "survives day end" (Day end; #101)
 unfoldable pub ordersCancelled : Account → Account
@@ -61,13 +62,16 @@ ordersCancelled a =
       positions = a .positions;
       orders = replicate 32 free;
       holdings = a .holdings;
+      running = a .running;
+      closing = a .closing;
+      free = a .free;
       last = a .last;
     }
 
 -- "each contract netted, long against short first, then what is left of long against covered" (002, question 20)
 unfoldable pub positionsNetted : Account → Account
 positionsNetted a =
-    record { sheet = a .sheet; waiting = a .waiting; positions = map netted (a .positions); orders = a .orders; holdings = a .holdings; last = a .last }
+    record { sheet = a .sheet; waiting = a .waiting; positions = map netted (a .positions); orders = a .orders; holdings = a .holdings; running = a .running; closing = a .closing; free = a .free; last = a .last }
 
 -- "new settlement and close figures installed", in the rows that the tables have (Day end)
 abbrev pub settled : Contract → ℕ → Contract
@@ -101,6 +105,21 @@ dailyZero a = withHoldings a (λ u. record { locked = holding a u .locked; bough
 unfoldable pub unitsReleased : Tables → Account → Account
 unitsReleased t a = withHoldings a (λ u. record { locked = record { 0 = coveredUnits t a u }; bought = holding a u .bought })
 
+-- "a day end sets them anew": no order rests, and what is kept of an underlying is what is held there (#107)
+unfoldable pub keptAnew : Tables → Account → Account
+keptAnew t a =
+    record {
+      sheet = a .sheet;
+      waiting = a .waiting;
+      positions = a .positions;
+      orders = a .orders;
+      holdings = a .holdings;
+      running = listed 8 (runningIn t a);
+      closing = replicate 64 noPosition;
+      free = allFree;
+      last = a .last;
+    }
+
 -- the steps in order, t being the tables with the new figures; "the last accepted order number is kept" by each of them (Day end)
 unfoldable pub dayEnded : Tables → Account → Account
-dayEnded t a = unitsReleased t (dailyZero (premiumJoined (marginAfresh t (positionsNetted (ordersCancelled a)))))
+dayEnded t a = keptAnew t (unitsReleased t (dailyZero (premiumJoined (marginAfresh t (positionsNetted (ordersCancelled a))))))

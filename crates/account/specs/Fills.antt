@@ -129,6 +129,7 @@ fillChange f fill =
       position = moved (movesOf kind) (opensOf kind) (fill .quantity) (f .position);
       place = f .place;
       order = orderAfter (f .order) (fill .quantity);
+      unit = f .unit;
       underlying = f .underlying;
       holding = f .holding;
       last = f .last;
@@ -148,6 +149,7 @@ cancelChange f =
     Stays
     (f .place)
     free
+    (f .unit)
     (f .underlying)
     (record { locked = f .holding .locked; bought = record { 0 = f .holding .bought .0 - (left when isKind BuyOpen (f .order .kind)) } })
     (f .last)

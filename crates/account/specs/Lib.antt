@@ -9,6 +9,7 @@ pub mod Money
 pub mod Opening
 pub mod Orders
 pub mod Rows
+pub mod Running
 pub mod Sound
 pub mod Steps
 pub mod Sums

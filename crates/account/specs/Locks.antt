@@ -23,7 +23,7 @@ unitsAllowed t u units = ltb u (t .m) && (units ∈ rangeOf UnitsAtOnce)
 
 -- an underlying's holding with so many units locked (house)
 abbrev pub locking : Account → ℕ → ℕ → Change
-locking a u units = withoutPosition (a .sheet) Stays 32 free u (record { locked = record { 0 = units }; bought = holding a u .bought }) (a .last)
+locking a u units = withoutPosition (a .sheet) Stays 32 free 0 u (record { locked = record { 0 = units }; bought = holding a u .bought }) (a .last)
 
 -- "ceilings: .. locked units of one underlying 2 x 10^9" (Numbers)
 unfoldable pub lockVerdict : Tables → Holding → ℕ → ℕ → Verdict

@@ -2,9 +2,10 @@
 use Prim.Native.Nat.{ℕ}
 use lib.ListN.{replicate}
 use Rattle.account.specs.Rows.{free, noPosition, noHolding}
+use Rattle.account.specs.Running.{allFree, noRunning}
 use Rattle.account.specs.declared.account.Account.{Account}
 
--- cash alone; nothing waits, and 64 positions, 32 places and 8 holdings with nothing in them (Numbers)
+-- cash alone; nothing waits, and 64 positions, 32 places and 8 holdings with nothing in them, and so nothing kept of them (Numbers)
 abbrev pub opening : ℕ → Account
 opening cash =
     record {
@@ -13,5 +14,8 @@ opening cash =
       positions = replicate 64 noPosition;
       orders = replicate 32 free;
       holdings = replicate 8 noHolding;
+      running = replicate 8 noRunning;
+      closing = replicate 64 noPosition;
+      free = allFree;
       last = 0;
     }

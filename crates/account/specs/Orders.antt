@@ -18,8 +18,9 @@ use Rattle.entries.specs.declared.entry.Order.{Order}
 use Rattle.account.specs.Changes.{withoutPosition}
 use Rattle.account.specs.Money.{holdOne, availableOf}
 use Rattle.account.specs.Rows.{noUnderlying, noHolding, contract, underlying, position, holding, order}
+use Rattle.account.specs.Running.{closingOn}
 use Rattle.account.specs.Sums.{lowest, _when_}
-use Rattle.account.specs.Totals.{countOf, isKind, restingOn, rightsIn, totalIn, spareUnits}
+use Rattle.account.specs.Totals.{countOf, isKind, rightsIn, totalIn, spareUnits}
 use Rattle.account.specs.declared.account.Account.{Account}
 use Rattle.account.specs.declared.account.Holding.{Holding}
 use Rattle.account.specs.declared.account.Resting.{Resting}
@@ -60,7 +61,7 @@ factsIn t a o =
       last = a .last;
       place = freePlace a;
       position = record { 0 = countOf (movesOf (o .kind)) (position a c) };
-      closing = record { 0 = restingOn (o .kind) a c };
+      closing = record { 0 = countOf (movesOf (o .kind)) (closingOn a c) };
       rights = record { 0 = rightsIn t a u };
       total = record { 0 = totalIn t a u };
       underlying = u;
@@ -71,6 +72,7 @@ factsIn t a o =
       sheet = a .sheet;
       available = availableOf (a .sheet);
       hold = forCount (o .quantity) (holdOne t (o .kind) c (o .price));
+      unit = contract t c .unit;
     }
 
 -- of an order whose values are not allowed nothing else is asked (house)
@@ -92,6 +94,7 @@ noFacts =
       sheet = record { cash = 0; premium = 0; holds = 0; margin = 0 };
       available = pos 0;
       hold = 0;
+      unit = 0;
     }
 
 -- the facts of an order (house)
@@ -116,4 +119,4 @@ withBought f o =
 
 -- what an accepted order changes: its place, the holds, the daily count and the last accepted number (house)
 unfoldable pub orderChange : Facts → Order → Change
-orderChange f o = withoutPosition (withHold f) Stays (f .place) (rested o) (f .underlying) (withBought f o) (o .number)
+orderChange f o = withoutPosition (withHold f) Stays (f .place) (rested o) (f .unit) (f .underlying) (withBought f o) (o .number)

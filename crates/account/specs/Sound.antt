@@ -19,6 +19,7 @@ use Rattle.entries.specs.declared.entry.Underlying.{Underlying}
 use Rattle.account.specs.Money.{holdsIn, kindOf, marginIn}
 use Rattle.account.specs.Orders.{orderAllowed}
 use Rattle.account.specs.Rows.{free, noHolding, noPosition, contract, underlying, position, holding, order}
+use Rattle.account.specs.Running.{closing, closingOn, freeIn, running, runningIn}
 use Rattle.account.specs.Totals.{countOf, isKind, restingIn, restingOn, rightsIn, totalIn, coveredUnits, reservedUnits}
 use Rattle.account.specs.declared.account.Account.{Account}
 use Rattle.account.specs.declared.account.Resting.{Resting}
@@ -73,6 +74,11 @@ pub record Sound (t : Tables) (a : Account) : Type 0 where
   pub emptied : (i : ℕ) → i < 32 → order a i .number ≡ 0 → order a i ≡ free  -- a free place is all zero and adds nothing to a total
   pub resting : (i : ℕ) → i < 32 → 1 ≤ order a i .number → SoundOrder t (a .last) (order a i)  -- what rests was accepted
   pub distinct : (i j : ℕ) → i < 32 → j < 32 → 1 ≤ order a i .number → order a i .number ≡ order a j .number → i ≡ j  -- a number names one order
+  pub runningRows : length (a .running) ≡ 8  -- the array has 8 rows
+  pub closingRows : length (a .closing) ≡ 64  -- the array has 64 rows
+  pub running : (u : ℕ) → u < 8 → running a u ≡ runningIn t a u  -- each running total is the sum it stands for (#107)
+  pub closing : (c : ℕ) → c < 64 → closing a c ≡ closingOn a c  -- so are the closes kept on each contract
+  pub free : a .free ≡ freeIn a  -- and the places that are free
   pub noMorePositions : (c : ℕ) → t .n ≤ c → position a c ≡ noPosition  -- a contract that is not there is not held
   pub noMoreHoldings : (u : ℕ) → t .m ≤ u → holding a u ≡ noHolding  -- nor is an underlying
 

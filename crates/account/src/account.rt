@@ -1,12 +1,20 @@
 // One client's account.
 use crate::judged::Change;
+use crate::running::Running;
+use crate::running::closing_changed;
+use crate::term::counted_u32;
 use terms::Contracts;
 use terms::Position;
 use terms::Units;
 ghost use mathlib.Core.Path.{_≡_};
-ghost use Rattle.account.specs.Changes.{applied};
+ghost use Prim.Native.Nat.{_^_, _<_};
+ghost use Rattle.account.specs.Changes.{Movable, applied, written};
 ghost use Rattle.account.specs.Opening.{opening};
-ghost use Rattle.account.specs.Rows.{free};
+ghost use Rattle.account.specs.Rows.{free, order, position};
+ghost use Rattle.account.specs.Running.{Moves, freeAt, freeMoved, ordered};
+
+// All 32 places are free.
+const ALL_FREE: u32 = 4_294_967_295;
 
 // The money sheet, in fen. Covered premium is what was received today for covered opening.
 pub struct Sheet {
@@ -45,13 +53,18 @@ pub struct Holding {
     pub bought: Contracts,
 }
 
-// One request for a payout may wait; 0 where none does, since an amount that is asked for is at least 1.
+// One request for a payout may wait; 0 where none does, since an amount that is asked for is at least 1. Running totals of each underlying,
+// resting closes on each contract, by the count that they close, and the free places, a binary digit for each, are kept as we go: they
+// could be summed from positions and orders, which is what they are proved to be.
 pub struct Account {
     pub sheet: Sheet,
     pub waiting: u64,
     pub positions: [Position; terms::CONTRACTS],
     pub orders: [Resting; terms::PLACES],
     pub holdings: [Holding; terms::UNDERLYINGS],
+    pub running: [Running; terms::UNDERLYINGS],
+    pub closing: [Position; terms::CONTRACTS],
+    pub free: u32,
     pub last: u32,
 }
 
@@ -60,6 +73,11 @@ impl Account {
     pub fn opening(cash: u64) -> Account
         ensures { λ r. ⌜ r ≡ opening cash ⌝ }
     {
+        let nothing = Position {
+            long: Contracts(0),
+            short: Contracts(0),
+            covered: Contracts(0),
+        };
         Account {
             sheet: Sheet {
                 cash,
@@ -68,24 +86,54 @@ impl Account {
                 margin: 0,
             },
             waiting: 0,
-            positions: [Position {
-                long: Contracts(0),
-                short: Contracts(0),
-                covered: Contracts(0),
-            }; terms::CONTRACTS],
+            positions: [nothing; terms::CONTRACTS],
             orders: [Resting::free(); terms::PLACES],
             holdings: [Holding {
                 locked: Units(0),
                 bought: Contracts(0),
             }; terms::UNDERLYINGS],
+            running: [Running {
+                long: Contracts(0),
+                total: Contracts(0),
+                buys: Contracts(0),
+                opens: Contracts(0),
+                taken: Units(0),
+            }; terms::UNDERLYINGS],
+            closing: [nothing; terms::CONTRACTS],
+            free: ALL_FREE,
             last: 0,
         }
     }
 
-    // The one place that writes a change into an account. A number past the last contract, place or underlying names none: what it
-    // would write is not there.
+    // The one place that writes a change into an account: what changed, and what is kept of it, which moves by what stood there and what
+    // stands there now. A number past the last contract, place or underlying names none: what it would write is not there.
     pub fn apply(self, change: Change) -> Account
+        requires { ⌜ Movable self change ⌝ }
         ensures { λ r. ⌜ r ≡ applied self change ⌝ }
+    {
+        let position = change.position;
+        let order = change.order;
+        let unit = change.unit;
+        let was = self.position_at(change.contract);
+        let had = self.order_at(change.place);
+        let mut after = self.written(change);
+        after.free = free_moved(self.free, change.place, had, order);
+        let c = ordered(had, order);
+        if c < terms::CONTRACTS {
+            let closing = after.closing[c];
+            after.closing[c] = closing_changed(closing, had, order);
+        }
+        let u = change.underlying;
+        if u < terms::UNDERLYINGS {
+            let running = after.running[u];
+            after.running[u] = running.changed(unit, was, had, position, order);
+        }
+        after
+    }
+
+    // The change alone, with all that is kept as it was.
+    fn written(self, change: Change) -> Account
+        ensures { λ r. ⌜ r ≡ written self change ⌝ }
     {
         let mut after = self;
         let c = change.contract;
@@ -110,4 +158,59 @@ impl Account {
         after.last = change.last;
         after
     }
+
+    // The position of a contract, and the order at a place; past the last there is none.
+    fn position_at(self, c: usize) -> Position
+        ensures { λ r. ⌜ r ≡ position self c ⌝ }
+    {
+        if c < terms::CONTRACTS {
+            return self.positions[c];
+        }
+        Position {
+            long: Contracts(0),
+            short: Contracts(0),
+            covered: Contracts(0),
+        }
+    }
+
+    fn order_at(self, i: usize) -> Resting
+        ensures { λ r. ⌜ r ≡ order self i ⌝ }
+    {
+        if i < terms::PLACES {
+            return self.orders[i];
+        }
+        Resting::free()
+    }
+}
+
+// The contract whose resting order changes: that of the new order, or of the old one where a place is given up.
+fn ordered(old: Resting, new: Resting) -> usize
+    ensures { λ r. ⌜ r ≡ ordered old new ⌝ }
+{
+    if new.number == 0 {
+        old.contract as usize
+    } else {
+        new.contract as usize
+    }
+}
+
+// The free places where the order at one place is another.
+fn free_moved(free: u32, place: usize, old: Resting, new: Resting) -> u32
+    requires { ⌜ (place < 32 → Moves 32 free (freeAt place old) (freeAt place new)) ⌝ }
+    ensures { λ r. ⌜ r ≡ freeMoved free place old new ⌝ }
+{
+    if place < terms::PLACES {
+        let digit = digit(place);
+        free - counted_u32(digit, old.number == 0) + counted_u32(digit, new.number == 0)
+    } else {
+        free
+    }
+}
+
+// The binary digit of a place.
+fn digit(place: usize) -> u32
+    requires { ⌜ place < 32 ⌝ }
+    ensures { λ r. ⌜ r ≡ 2 ^ place ⌝ }
+{
+    1u32 << place
 }

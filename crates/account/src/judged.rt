@@ -31,7 +31,7 @@ impl Verdict {
 }
 
 // The facts of an order; of one whose values are not allowed nothing else is known. Position is the count that the order moves and
-// closing what rests of its kind on its contract; rights and total are what counts against those limits already.
+// closing what rests of closes of that count on its contract; rights and total are what counts against those limits already.
 pub struct Facts {
     pub allowed: bool,
     pub last: u32,
@@ -48,6 +48,7 @@ pub struct Facts {
     pub sheet: Sheet,
     pub available: i64,
     pub hold: u64,
+    pub unit: u32,
 }
 
 // The facts of a fill and of a cancel: the order that the number names, at its place, with what one contract of it holds and what
@@ -83,7 +84,8 @@ impl Waiting {
 }
 
 // What an accepted entry leaves: the sheet, what waits, one contract's position, one place's order, one underlying's holding, and the last
-// accepted number. A contract, a place or an underlying past the last one names none, and then nothing of its sort changes.
+// accepted number. A contract, a place or an underlying past the last one names none, and then nothing of its sort changes. Position and
+// order are on one contract of that underlying, of so many units.
 pub struct Change {
     pub sheet: Sheet,
     pub waiting: Waiting,
@@ -91,6 +93,7 @@ pub struct Change {
     pub position: Position,
     pub place: usize,
     pub order: Resting,
+    pub unit: u32,
     pub underlying: usize,
     pub holding: Holding,
     pub last: u32,
@@ -110,6 +113,7 @@ impl Change {
             waiting,
             terms::PLACES,
             Resting::free(),
+            0,
             terms::UNDERLYINGS,
             holding,
             last,
@@ -122,11 +126,12 @@ impl Change {
         waiting: Waiting,
         place: usize,
         order: Resting,
+        unit: u32,
         underlying: usize,
         holding: Holding,
         last: u32,
     ) -> Change
-        ensures { λ r. ⌜ r ≡ withoutPosition sheet waiting place order underlying holding last ⌝ }
+        ensures { λ r. ⌜ r ≡ withoutPosition sheet waiting place order unit underlying holding last ⌝ }
     {
         Change {
             sheet,
@@ -139,6 +144,7 @@ impl Change {
             },
             place,
             order,
+            unit,
             underlying,
             holding,
             last,

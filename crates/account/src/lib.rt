@@ -1,6 +1,7 @@
 // The account: what it holds, what an entry is judged by, what is decided, and the one function that writes what an accepted entry changes.
 mod account;
 mod judged;
+mod running;
 mod tables;
 mod term;
 
@@ -15,5 +16,6 @@ pub use judged::Named;
 pub use judged::Outcome;
 pub use judged::Verdict;
 pub use judged::Waiting;
+pub use running::Running;
 pub use tables::Tables;
 pub use term::counted;

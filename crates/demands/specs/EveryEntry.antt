@@ -11,6 +11,7 @@ use Rattle.reading.specs.declared.Answer.the-variants as Answer·of
 use Rattle.reading.specs.declared.Reading.{Reading}
 use Rattle.account.specs.Money.{holdsIn, marginIn}
 use Rattle.account.specs.Rows.{holding, position, underlying}
+use Rattle.account.specs.Running.{closing, closingOn, freeIn, running, runningIn}
 use Rattle.account.specs.Totals.{rightsIn, totalIn}
 use Rattle.account.specs.Verdicts.{numberIn}
 use Rattle.account.specs.declared.account.Account.{Account}
@@ -28,6 +29,9 @@ pub record AsRuled (t : Tables) (a : Account) : Type 0 where
   pub rights : (u : ℕ) → u < t .m → rightsIn t a u ≤ underlying t u .rights  -- long + resting buy opens
   pub total : (u : ℕ) → u < t .m → totalIn t a u ≤ underlying t u .total  -- long + short + covered + resting opens
   pub daily : (u : ℕ) → u < t .m → holding a u .bought .0 ≤ underlying t u .daily  -- today's buy opens
+  pub running : (u : ℕ) → u < 8 → running a u ≡ runningIn t a u  -- long, total and resting opens as kept are "equal to the sums at every moment" (#107)
+  pub closing : (c : ℕ) → c < 64 → closing a c ≡ closingOn a c  -- so are the resting closes on each contract
+  pub free : a .free ≡ freeIn a  -- and the free places
 
 -- "after every entry": the book before and after a record, how the record was read, and what was written as its answer
 pub record AfterEntry (before after : Book) (reading : Reading) (number : ℕ) (sum : ℤ) : Type 0 where

@@ -42,6 +42,9 @@ richer X a =
       positions = a .positions;
       orders = a .orders;
       holdings = a .holdings;
+      running = a .running;
+      closing = a .closing;
+      free = a .free;
       last = a .last;
     }
 

@@ -13,6 +13,7 @@ use Rattle.entries.specs.declared.entry.Figures.{Figures}
 use Rattle.account.specs.Verdicts.{numberIn}
 use Rattle.account.specs.declared.judged.Verdict.{Verdict}
 use Rattle.set_up.specs.Rulings.{RestsOn, ruledBy, rulingOn, verdictOn}
+use Rattle.set_up.specs.Sound.{SoundBook}
 use Rattle.set_up.specs.declared.ruling.Ruling.{Ruling}
 use Rattle.set_up.specs.declared.ruling.Ruling.the-variants as Ruling·of
 use Rattle.set_up.specs.declared.stages.Book.{Book}
@@ -26,9 +27,9 @@ module _ (b : Book) (f : Figures) where
   rulingBy (Found entry len) = rulingOn b entry f
   rulingBy (Refused why place) = Ruling·of.Refused why
 
-  pub rests-by : (answer : Answer) → RestsOn b f (rulingBy answer)
-  rests-by (Found entry len) = ruling-rests b entry f
-  rests-by (Refused why place) = tt
+  pub rests-by : SoundBook b → (answer : Answer) → RestsOn b f (rulingBy answer)
+  rests-by sound (Found entry len) = ruling-rests b entry f sound
+  rests-by sound (Refused why place) = tt
 
   pub book-by : (answer : Answer) → ruledBy b f (rulingBy answer) ≡ answerBy b f answer .book
   book-by (Found entry len) = ruled-entered b entry f

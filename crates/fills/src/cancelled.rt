@@ -47,6 +47,7 @@ fn change(named: Named) -> Change
         Waiting::Stays,
         named.place,
         Resting::free(),
+        named.unit,
         named.underlying as usize,
         Holding { locked, bought },
         named.last,

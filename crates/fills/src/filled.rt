@@ -76,6 +76,7 @@ fn change(named: Named, kind: OrderKind, fill: Fill, sum: u64) -> Change
         position: moved(kind.moves(), kind.opens(), fill.quantity, position),
         place: named.place,
         order: order_after(order, fill.quantity),
+        unit: named.unit,
         underlying: named.underlying as usize,
         holding,
         last: named.last,

@@ -1,5 +1,4 @@
 // The facts of an order.
-use crate::place::free_place;
 use account::Account;
 use account::Facts;
 use account::Holding;
@@ -16,8 +15,6 @@ use terms::Position;
 use terms::Right;
 use terms::Side;
 use terms::Units;
-use totals::held_in;
-use totals::working_in;
 ghost use mathlib.Core.Path.{_≡_};
 ghost use mathlib.Core.Bool.{true};
 ghost use Rattle.account.specs.Orders.{coveredPut, factsIn, factsOf, noFacts, orderAllowed};
@@ -35,7 +32,8 @@ pub fn gather(tables: Tables, account: Account, order: Order) -> Facts
     }
 }
 
-// The facts of an order whose values are allowed.
+// The facts of an order whose values are allowed. Nothing is summed: the account keeps what would be. Each free place is a binary digit, so the
+// lowest one is where the zeros at the end of that number stop.
 fn known(tables: Tables, account: Account, order: Order) -> Facts
     requires { ⌜ Sound tables account × (orderAllowed tables order ≡ true) ⌝ }
     ensures { λ r. ⌜ r ≡ factsIn tables account order ⌝ }
@@ -46,33 +44,30 @@ fn known(tables: Tables, account: Account, order: Order) -> Facts
     let u = contract.underlying as usize;
     let limits = tables.underlyings[u];
     let holding = account.holdings[u];
-    let held = held_in(tables, account, contract.underlying);
-    let working = working_in(
-        tables,
-        account,
-        contract.underlying,
-        order.contract,
-        kind.code(),
-    );
+    let running = account.running[u];
+    let total = running.total;
     let position = account.positions[c];
+    let closing = account.closing[c];
+    let side = kind.moves();
     let sheet = account.sheet;
     let quantity = Contracts(order.quantity);
     Facts {
         allowed: true,
         last: account.last,
-        place: free_place(account),
-        position: Contracts(count(kind.moves(), position)),
-        closing: Contracts(working.same as u32),
-        rights: Contracts((held.long + working.buys) as u32),
-        total: Contracts((held.long + held.short + held.covered + working.opens) as u32),
+        place: u32::trailing_zeros(account.free) as usize,
+        position: Contracts(count(side, position)),
+        closing: Contracts(count(side, closing)),
+        rights: Contracts(running.long.0 + running.buys.0),
+        total,
         underlying: contract.underlying,
         limits,
         holding,
-        spare: Units(holding.locked.0 - held.units - working.reserved),
+        spare: Units(holding.locked.0 - running.taken.0),
         needed: quantity.units(contract.unit),
         sheet,
         available: available(sheet),
         hold: order.quantity as u64 * hold_one(kind, contract, limits, order.price),
+        unit: contract.unit,
     }
 }
 
@@ -150,5 +145,6 @@ fn no_facts() -> Facts
         },
         available: 0,
         hold: 0,
+        unit: 0,
     }
 }

@@ -1,5 +1,4 @@
 // Gathering: what an order is judged by, read off the tables and the account.
 mod facts;
-mod place;
 
 pub use facts::gather;

@@ -37,6 +37,7 @@ pub(crate) fn change(facts: Facts, order: Order) -> Change
         Waiting::Stays,
         facts.place,
         rested,
+        facts.unit,
         facts.underlying as usize,
         Holding { locked, bought },
         order.number,

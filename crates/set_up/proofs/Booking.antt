@@ -22,6 +22,7 @@ use Rattle.account.specs.declared.judged.Verdict.the-variants as Verdict
 use Rattle.steps.specs.Booked.{decisionOn}
 use Rattle.steps.proofs.Booking.{rests, stepped, verdict-decided}
 use Rattle.set_up.specs.Rulings.{RestsOn, contractRuling, openWith, openingRuling, ruledAs, ruledBy, rulingOn, underlyingRuling, verdictOn}
+use Rattle.set_up.specs.Sound.{SoundBook}
 use Rattle.set_up.specs.Stages.{bookAfter, bySetUp, enteredAs, entered, inPlace, recordVerdict, withEntry}
 use Rattle.set_up.specs.declared.ruling.Ruling.{Ruling}
 use Rattle.set_up.specs.declared.ruling.Ruling.the-variants.{Underlying, Contract, Opening, Entry}
@@ -45,11 +46,11 @@ module _ (b : Book) (f : Figures) where
   record Leads (ruling : Ruling) (v : Verdict·of.Verdict) (after : Book) : Type 0 where
     told : verdictOn ruling ≡ v
     booked : ruledBy b f ruling ≡ enteredAs v b after .book
-    rested : RestsOn b f ruling
+    rested : SoundBook b → RestsOn b f ruling
 
   row-taken : (passes : Bool) (ruling : Ruling) → verdictOn ruling ≡ Accepted → (passes ≡ true → RestsOn b f ruling) → Leads (ruledAs (passes else OutOfRange then Accepted) ruling) (passes else OutOfRange then Accepted) (ruledBy b f ruling)
-  row-taken true ruling accepted room = record { told = accepted; booked = refl; rested = room refl }
-  row-taken false ruling accepted room = record { told = refl; booked = refl; rested = tt }
+  row-taken true ruling accepted room = record { told = accepted; booked = refl; rested = λ sound. room refl }
+  row-taken false ruling accepted room = record { told = refl; booked = refl; rested = λ sound. tt }
 
   module _ (entry : Entry·of.Entry) (stands : b .stage ≡ Entries) where
     by-verdict : (v : Verdict·of.Verdict) → openWith (outcome v (b .tables) (b .account) (tablesAfter (b .tables) entry f) (accountAfter (b .tables) (b .account) entry f)) ≡ enteredAs v b (withEntry b entry f) .book
@@ -62,7 +63,7 @@ module _ (b : Book) (f : Figures) where
         record {
           told = verdict-decided (b .tables) (b .account) f entry;
           booked = ap openWith (stepped (b .tables) (b .account) f entry) ∙ by-verdict (refusalOf (b .tables) (b .account) entry f);
-          rested = (stands, rests (b .tables) f (b .account) entry);
+          rested = λ sound. (stands, rests (b .tables) f (b .account) (sound .account stands) entry);
         }
 
   kind-leads : (entry : Entry·of.Entry) → inPlace (b .stage) (codeOf (kindOf entry)) ≡ true → Leads (by-kind entry) (verdict b f entry) (bookAfter b entry f)
@@ -90,7 +91,7 @@ module _ (b : Book) (entry : Entry·of.Entry) (f : Figures) where
       go : (placed : Bool) → inPlace (b .stage) (codeOf (kindOf entry)) ≡ placed
           → Leads b f (ruledAs (placed else OutOfPlace then Accepted) (by-kind b f entry)) (placed else OutOfPlace then verdict b f entry) (bookAfter b entry f)
       go true e = kind-leads b f entry e
-      go false e = record { told = refl; booked = refl; rested = tt }
+      go false e = record { told = refl; booked = refl; rested = λ sound. tt }
 
   pub ruling-verdict : verdictOn (rulingOn b entry f) ≡ recordVerdict b entry f
   ruling-verdict = leads .told
@@ -99,5 +100,5 @@ module _ (b : Book) (entry : Entry·of.Entry) (f : Figures) where
   unfolding entered
   ruled-entered = leads .booked
 
-  pub ruling-rests : RestsOn b f (rulingOn b entry f)
+  pub ruling-rests : SoundBook b → RestsOn b f (rulingOn b entry f)
   ruling-rests = leads .rested

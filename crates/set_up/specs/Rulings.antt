@@ -57,7 +57,7 @@ RestsOn b f (Refused why) = Unit
 RestsOn b f (Underlying row) = b .tables .m < 8
 RestsOn b f (Contract row) = b .tables .n < 64
 RestsOn b f (Opening cash) = Unit
-RestsOn b f (Entry d) = (b .stage ≡ Entries) × Rests (b .tables) f d
+RestsOn b f (Entry d) = (b .stage ≡ Entries) × Rests (b .tables) (b .account) f d
 
 -- an open book with what an entry led to
 abbrev pub openWith : Outcome → Book

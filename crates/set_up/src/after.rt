@@ -65,7 +65,7 @@ fn with_contract(book: Book, row: Contract) -> Book
 
 // What is decided about an entry is booked on the open account.
 fn with_decision(book: Book, figures: Figures, decision: Decision) -> Book
-    requires { ⌜ Sound (book .tables) (book .account) × Rests (book .tables) figures decision ⌝ }
+    requires { ⌜ Sound (book .tables) (book .account) × Rests (book .tables) (book .account) figures decision ⌝ }
     ensures { λ r. ⌜ r ≡ withDecision book figures decision ⌝ }
 {
     let before = book.tables;

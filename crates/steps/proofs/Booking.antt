@@ -1,4 +1,4 @@
--- A decision booked is the outcome of its verdict: what it changes where it is accepted, nothing where it is refused. So an entry is stepped as what is decided about it is booked; and a day ends only on figures that the tables take.
+-- A decision booked is the outcome of its verdict: what it changes where it is accepted, nothing where it is refused. So an entry is stepped as what is decided about it is booked; what is kept of a sound account can be moved with the change, and a day ends only on figures that the tables take.
 use mathlib.Core.Path.{_≡_, refl, sym, ap, _∙_}
 use mathlib.Core.Bool.{Bool, true, false, cond}
 use Prim.Native.Nat.{ℕ}
@@ -7,8 +7,9 @@ use Rattle.entries.specs.Table.{isDayEnd}
 use Rattle.entries.specs.declared.entry.Entry.{Entry}
 use Rattle.entries.specs.declared.entry.Figures.{Figures}
 use Rattle.entries.proofs.EachKind.{by-day-end}
-use Rattle.account.specs.Changes.{applied, decided, ending, verdictIn}
+use Rattle.account.specs.Changes.{Movable, applied, decided, ending, verdictIn}
 use Rattle.account.specs.DayEnd.{dayEndVerdict, dayEnded, figuresInstalled}
+use Rattle.account.specs.Sound.{Sound}
 use Rattle.account.specs.Steps.{accountAfter, changeOf, outcome, refusalOf, step, tablesAfter}
 use Rattle.account.specs.declared.account.Account.{Account}
 use Rattle.account.specs.declared.judged.Change.{Change}
@@ -19,6 +20,7 @@ use Rattle.account.specs.declared.judged.Verdict.{Verdict}
 use Rattle.account.specs.declared.judged.Verdict.the-variants.{Accepted, Refused}
 use Rattle.account.specs.declared.tables.Tables.{Tables}
 use Rattle.account.proofs.Installed.{rows-told}
+use Rattle.account.proofs.StepMovable.{accepted-movable}
 use Rattle.day_end.specs.Ended.{FiguresTaken}
 use Rattle.steps.specs.Booked.{Rests, bookedBy, decisionOn}
 
@@ -61,17 +63,18 @@ module _ (t : Tables) (f : Figures) where
       let same = rows-told t n m f accepted in
       ap (λ (n : ℕ). dayEndVerdict t n (t .m) f) (sym (same .0)) ∙ ap (λ (m : ℕ). dayEndVerdict t n m f) (sym (same .1)) ∙ accepted
 
-  decided-rests : (v : Verdict) (change : Change) → Rests t f (decided v change)
-  decided-rests Accepted change = tt
-  decided-rests (Refused why) change = tt
+  module _ (a : Account) where
+    decided-rests : (v : Verdict) (change : Change) → (v ≡ Accepted → Movable a change) → Rests t a f (decided v change)
+    decided-rests Accepted change moves = moves refl
+    decided-rests (Refused why) change moves = tt
 
-  ending-rests : (v : Verdict) → (v ≡ Accepted → FiguresTaken t f) → Rests t f (ending v)
-  ending-rests Accepted takes = takes refl
-  ending-rests (Refused why) takes = tt
+    ending-rests : (v : Verdict) → (v ≡ Accepted → FiguresTaken t f) → Rests t a f (ending v)
+    ending-rests Accepted takes = takes refl
+    ending-rests (Refused why) takes = tt
 
-  pub rests : (a : Account) (entry : Entry) → Rests t f (decisionOn t a entry f)
-  unfolding decisionOn refusalOf
-  rests a =
-      by-day-end (λ entry. Rests t f (decisionOn t a entry f))
-      (λ n m. ending-rests (dayEndVerdict t n m f) (taken n m))
-      (λ entry other. rw other (decided-rests (refusalOf t a entry f) (changeOf t a entry)))
+    pub rests : Sound t a → (entry : Entry) → Rests t a f (decisionOn t a entry f)
+    unfolding decisionOn refusalOf
+    rests sound =
+        by-day-end (λ entry. Rests t a f (decisionOn t a entry f))
+        (λ n m. ending-rests (dayEndVerdict t n m f) (taken n m))
+        (λ entry other. rw other (decided-rests (refusalOf t a entry f) (changeOf t a entry) (accepted-movable t a sound entry f)))

@@ -4,7 +4,7 @@ use Rattle.entries.specs.Entries.{kindOf}
 use Rattle.entries.specs.Table.{isDayEnd}
 use Rattle.entries.specs.declared.entry.Entry.{Entry}
 use Rattle.entries.specs.declared.entry.Figures.{Figures}
-use Rattle.account.specs.Changes.{applied, decided, ending}
+use Rattle.account.specs.Changes.{Movable, applied, decided, ending}
 use Rattle.account.specs.Steps.{changeOf, refusalOf}
 use Rattle.account.specs.declared.account.Account.{Account}
 use Rattle.account.specs.declared.judged.Decision.{Decision}
@@ -18,11 +18,11 @@ use Rattle.day_end.specs.Ended.{FiguresTaken, endedOn}
 unfoldable pub decisionOn : Tables → Account → Entry → Figures → Decision
 decisionOn t a entry f = cond (isDayEnd (kindOf entry)) (ending (refusalOf t a entry f)) (decided (refusalOf t a entry f) (changeOf t a entry))
 
--- what a decision rests on when it is booked: where the day ends, the tables take the figures
-abbrev pub Rests : Tables → Figures → Decision → Type 0
-Rests t f (Decision·of.Refused why) = Unit
-Rests t f (Decision·of.Changes change) = Unit
-Rests t f Decision·of.DayEnds = FiguresTaken t f
+-- what a decision rests on when it is booked: what is kept of the account can be moved with a change; where the day ends, the tables take the figures
+abbrev pub Rests : Tables → Account → Figures → Decision → Type 0
+Rests t a f (Decision·of.Refused why) = Unit
+Rests t a f (Decision·of.Changes change) = Movable a change
+Rests t a f Decision·of.DayEnds = FiguresTaken t f
 
 abbrev pub bookedBy : Tables → Account → Figures → Decision → Outcome
 bookedBy t a f (Decision·of.Refused why) = record { verdict = Refused why; tables = t; account = a }

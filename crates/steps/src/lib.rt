@@ -66,7 +66,7 @@ pub fn decide(tables: Tables, account: Account, entry: Entry, figures: Figures) 
 
 // The one place where what was decided is written. A refusal leaves tables and account as they were.
 pub fn booked(tables: Tables, account: Account, figures: Figures, decision: Decision) -> Outcome
-    requires { ⌜ Sound tables account × Rests tables figures decision ⌝ }
+    requires { ⌜ Sound tables account × Rests tables account figures decision ⌝ }
     ensures { λ r. ⌜ r ≡ bookedBy tables account figures decision ⌝ }
 {
     match decision {

@@ -9,8 +9,6 @@ use account::Waiting;
 use terms::Measure;
 use terms::Refusal;
 use terms::Units;
-use totals::held_in;
-use totals::working_in;
 ghost use mathlib.Core.Path.{_≡_};
 ghost use Prim.Native.Nat.{_<_};
 ghost use Rattle.account.specs.Changes.{decided};
@@ -44,9 +42,8 @@ pub fn unlock(tables: Tables, account: Account, underlying: u16, units: u32) -> 
     }
     let u = underlying as usize;
     let holding = account.holdings[u];
-    let held = held_in(tables, account, underlying);
-    let working = working_in(tables, account, underlying, 0, 0);
-    if units as u64 > holding.locked.0 - held.units - working.reserved {
+    let running = account.running[u];
+    if units as u64 > holding.locked.0 - running.taken.0 {
         return Decision::Refused(Refusal::SpareTooFew);
     }
     let locked = holding.locked.0 - units as u64;
@@ -71,6 +68,7 @@ fn locking(account: Account, underlying: usize, before: Holding, locked: u64) ->
         Waiting::Stays,
         terms::PLACES,
         Resting::free(),
+        0,
         underlying,
         Holding {
             locked: Units(locked),

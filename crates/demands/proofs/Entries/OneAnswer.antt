@@ -12,7 +12,7 @@ use Rattle.entries.specs.declared.entry.Figures.{Figures}
 use Rattle.reading.specs.declared.Answer.{Answer}
 use Rattle.reading.specs.declared.Answer.the-variants.{Found, Refused}
 use Rattle.reading.specs.declared.Reading.{Reading}
-use Rattle.account.specs.DayEnd.{ordersCancelled, positionsNetted, marginAfresh, premiumJoined, dailyZero, unitsReleased, dayEnded}
+use Rattle.account.specs.DayEnd.{keptAnew, ordersCancelled, positionsNetted, marginAfresh, premiumJoined, dailyZero, unitsReleased, dayEnded}
 use Rattle.account.specs.Rows.{noPosition, position}
 use Rattle.account.specs.Sound.{Sound}
 use Rattle.account.specs.Steps.{accountAfter}
@@ -29,11 +29,11 @@ use Rattle.desk.proofs.Answered.{answer-sound}
 use Rattle.demands.specs.EveryEntry.{AfterEntry, AsRuled}
 
 as-ruled : (t : Tables) (a : Account) → Sound t a → AsRuled t a
-as-ruled t a s = record { margin = s .margin; holds = s .holds; rights = s .rights; total = s .total; daily = s .daily }
+as-ruled t a s = record { margin = s .margin; holds = s .holds; rights = s .rights; total = s .total; daily = s .daily; running = s .running; closing = s .closing; free = s .free }
 
 -- a day end nets every contract, and one that is not held is netted to nothing
 day-nets : (t : Tables) (a : Account) (c : ℕ) → position (dayEnded t a) c ≡ netted (position a c)
-unfolding dayEnded unitsReleased dailyZero premiumJoined marginAfresh positionsNetted ordersCancelled netted againstShort againstCovered
+unfolding dayEnded keptAnew unitsReleased dailyZero premiumJoined marginAfresh positionsNetted ordersCancelled netted againstShort againstCovered
 day-nets t a c = List·getD-map netted (a .positions) c noPosition
 
 module _ (b : Book) (f : Figures) where

@@ -8,7 +8,7 @@ use Rattle.entries.specs.declared.entry.Entry.{Entry}
 use Rattle.entries.specs.declared.entry.Entry.the-variants.{Deposit, Withdraw, Lock, Unlock, Order, Fill, Cancel, DayEnd, Pay, Drop, Underlying, Contract, Opening}
 use Rattle.entries.specs.declared.entry.Figures.{Figures}
 use Rattle.account.specs.Changes.{applied}
-use Rattle.account.specs.DayEnd.{ordersCancelled, positionsNetted, marginAfresh, premiumJoined, dailyZero, unitsReleased, dayEnded}
+use Rattle.account.specs.DayEnd.{keptAnew, ordersCancelled, positionsNetted, marginAfresh, premiumJoined, dailyZero, unitsReleased, dayEnded}
 use Rattle.account.specs.Fills.{named, paid, fillChange, cancelChange}
 use Rattle.account.specs.Locks.{lockChange, unlockChange}
 use Rattle.account.specs.Money.{kindOf, marginIn}
@@ -29,7 +29,7 @@ use Rattle.demands.specs.Postings.{postingsOf}
 
 module _ (t : Tables) (a : Account) (f : Figures) where
   entry-posted : (entry : Entry) → refusalOf t a entry f ≡ Accepted → accountAfter t a entry f .sheet ≡ allPosted (a .sheet) (postingsOf t a entry f)
-  unfolding refusalOf accountAfter postingsOf applied depositChange withdrawChange payChange dropChange lockChange unlockChange orderChange fillChange cancelChange named dayEnded unitsReleased dailyZero premiumJoined marginAfresh positionsNetted ordersCancelled marginIn
+  unfolding refusalOf accountAfter postingsOf applied depositChange withdrawChange payChange dropChange lockChange unlockChange orderChange fillChange cancelChange named dayEnded keptAnew unitsReleased dailyZero premiumJoined marginAfresh positionsNetted ordersCancelled marginIn
   entry-posted (Deposit amount) accepted = refl
   entry-posted (Withdraw amount) accepted = refl
   entry-posted (Lock u units) accepted = refl

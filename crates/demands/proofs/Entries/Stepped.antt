@@ -6,7 +6,7 @@ use lib.ListN.{length}
 use Rattle.terms.specs.declared.refusal.Refusal.{Refusal}
 use Rattle.entries.specs.declared.entry.Entry.{Entry}
 use Rattle.entries.specs.declared.entry.Figures.{Figures}
-use Rattle.account.specs.DayEnd.{ordersCancelled, positionsNetted, marginAfresh, premiumJoined, dailyZero, unitsReleased, dayEnded}
+use Rattle.account.specs.DayEnd.{keptAnew, ordersCancelled, positionsNetted, marginAfresh, premiumJoined, dailyZero, unitsReleased, dayEnded}
 use Rattle.account.specs.Steps.{refusalOf, step, run}
 use Rattle.account.specs.declared.account.Account.{Account}
 use Rattle.account.specs.declared.judged.Verdict.the-variants.{Refused}
@@ -28,12 +28,12 @@ all-answered t a (entry ∷ rest) =
     ap suc (all-answered (after .tables) (after .account) rest)
 
 pub number-kept : (t : Tables) (a : Account) → dayEnded t a .last ≡ a .last
-unfolding dayEnded unitsReleased dailyZero premiumJoined marginAfresh positionsNetted ordersCancelled
+unfolding dayEnded keptAnew unitsReleased dailyZero premiumJoined marginAfresh positionsNetted ordersCancelled
 number-kept t a = refl
 
 -- what waits waits on, and nothing else is held
 pub waiting-kept : (t : Tables) (a : Account) → (dayEnded t a .waiting ≡ a .waiting) × (dayEnded t a .sheet .holds ≡ a .waiting)
-unfolding dayEnded unitsReleased dailyZero premiumJoined marginAfresh positionsNetted ordersCancelled
+unfolding dayEnded keptAnew unitsReleased dailyZero premiumJoined marginAfresh positionsNetted ordersCancelled
 waiting-kept t a = (refl, refl)
 
 -- what the step's contract asks is what it gives back: a caller that starts at an opening has nothing else to show

@@ -11,11 +11,11 @@ use Rattle.rules.specs.Count.{forCount}
 use Rattle.entries.specs.declared.entry.Entry.the-variants.{DayEnd}
 use Rattle.entries.specs.declared.entry.Figures.{Figures}
 use Rattle.entries.specs.declared.entry.Underlying.{Underlying}
-use Rattle.account.specs.DayEnd.{listed, closeOf, closed, withSheet, dayEndVerdict, ordersCancelled, positionsNetted, figuresInstalled, marginAfresh, premiumJoined, dailyZero, unitsReleased, dayEnded}
+use Rattle.account.specs.DayEnd.{keptAnew, listed, closeOf, closed, withSheet, dayEndVerdict, ordersCancelled, positionsNetted, figuresInstalled, marginAfresh, premiumJoined, dailyZero, unitsReleased, dayEnded}
 use Rattle.account.specs.Money.{marginIn}
 use Rattle.account.specs.Rows.{noUnderlying, contract, underlying, position}
 use Rattle.account.specs.Steps.{accountAfter, refusalOf, tablesAfter}
-use Rattle.account.specs.Totals.{coveredUnits}
+use Rattle.account.specs.Totals.{countIn, coveredUnits, overOrders, reservedUnits, totalIn}
 use Rattle.account.specs.declared.account.Account.{Account}
 use Rattle.account.specs.declared.judged.Verdict.the-variants.{Accepted}
 use Rattle.account.specs.declared.tables.Tables.{Tables}
@@ -51,7 +51,7 @@ module _ (t : Tables) (rows : List Underlying) (roomier : RoomierTables t (relis
       ap (forCount (position a c .short .0)) same)
 
   ended-too : (X : ℕ) (a : Account) → dayEnded (relisted t rows) (richer X a) ≡ richer X (dayEnded t a)
-  unfolding dayEnded unitsReleased dailyZero premiumJoined marginAfresh positionsNetted ordersCancelled coveredUnits marginIn
+  unfolding dayEnded keptAnew unitsReleased dailyZero premiumJoined marginAfresh positionsNetted ordersCancelled countIn totalIn overOrders coveredUnits reservedUnits marginIn
   ended-too X a =
       let after = dayEnded t a in
       ap₂ (λ (cash margin : ℕ). withSheet after (record { cash = cash; premium = 0; holds = a .waiting; margin = margin }))

@@ -45,6 +45,7 @@ factsWith f limits sheet available hold =
       sheet = sheet;
       available = available;
       hold = hold;
+      unit = f .unit;
     }
 
 abbrev eased : ℕ → Underlying → Facts → Facts

@@ -73,7 +73,7 @@ module _ (c : tie.At-match-came Inv-loop μ-loop) where
 
 ruled-requires : tie.Need-ruled-requires Inv-loop μ-loop
 ruled-requires c κs =
-    (at (turn c) .loop .inv .1, subst (RestsOn (before c) (read c .reading .figures)) (sym (rules c)) (rests-by (before c) (read c .reading .figures) (read c .reading .answer)))
+    (at (turn c) .loop .inv .1, subst (RestsOn (before c) (read c .reading .figures)) (sym (rules c)) (rests-by (before c) (read c .reading .figures) (at (turn c) .loop .inv .1) (read c .reading .answer)))
 
 -- the book after the record is sound
 sound : (c : tie.After-ruled Inv-loop μ-loop) → SoundBook (c .ruled .result)

@@ -15,10 +15,10 @@ use Rattle.account.specs.declared.judged.Decision.{Decision}
 use Rattle.account.specs.declared.judged.Facts.{Facts}
 use Rattle.account.specs.declared.judged.Verdict.the-variants.{Accepted}
 use Rattle.account.specs.declared.tables.Tables.{Tables}
+use Rattle.account.proofs.Allowed.{contract-known, underlying-known}
 use Rattle.account.proofs.Bounds.{bought-most, holds-most, one-hold, order-figures}
 use Rattle.account.proofs.Decided.{changes, refuses}
 use Rattle.account.proofs.Passed.{accepted-passed, facts-known}
-use Rattle.gathering.proofs.Known.{there, listed}
 use Rattle.orders.proofs.order.Statement.{statement}
 use Rattle.orders.proofs.order.Tie as tie
 
@@ -35,10 +35,10 @@ module _ (t : Tables) (a : Account) (o : Order) (f : Facts) (gathered : f ≡ fa
       let allowed = passed .allowed in
       let figures = order-figures o allowed in
       let holds = holds-most sound in
-      let one = one-hold (sound .tables) (o .contract) (there t a o sound allowed) (o .kind) (o .price) (figures .price) in
+      let one = one-hold (sound .tables) (o .contract) (contract-known t o allowed) (o .kind) (o .price) (figures .price) in
       let quantity = figures .quantity in
       let held = mul-le-mul quantity (le-of-lt one) in
-      let bought = bought-most sound _ (listed t a o sound allowed) in
+      let bought = bought-most sound _ (underlying-known t o allowed (sound .tables)) in
       subst (λ (f : Facts). (f .sheet .holds + f .hold < 2 ^ 64) × (f .holding .bought .0 + o .quantity < 2 ^ 32)) (sym (gathered ∙ facts-known t a o allowed))
       (omega (arith, holds, held), omega (arith, bought, quantity))
 

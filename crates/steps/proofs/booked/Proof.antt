@@ -21,17 +21,19 @@ module _ (t : Tables) (a : Account) (f : Figures) (d : Decision) where
   changed : (change : Change) (after : Account) → d ≡ Decision·of.Changes change → after ≡ applied a change → record { verdict = Accepted; tables = t; account = after } ≡ bookedBy t a f d
   changed change after e is = ap (λ (after : Account). record { verdict = Accepted; tables = t; account = after }) is ∙ sym (ap (bookedBy t a f) e)
 
+-- in each arm the decision is known
+rested : (start : tie.Start) {is : Decision} → start .args .decision ≡ is → Rests (start .args .tables) (start .args .account) (start .args .figures) is
+rested start e = subst (Rests (start .args .tables) (start .args .account) (start .args .figures)) e (start .pre .1)
+
 pub booked-spec : {M : Type 1} → statement M
 booked-spec =
     tie.close
     (tie.spec
     (λ c. search needs)
     (λ c. search needs)
-    (λ c κs. tt)
+    (λ c κs. rested (c .before .before .before) (c .before .decision2 .given .1))
     (λ c. search needs)
-    (λ c κs.
-    let start = c .before .before in
-    (start .pre .0, subst (Rests (start .args .tables) (start .args .figures)) (c .enum-told .given .1) (start .pre .1)))
+    (λ c κs. let start = c .before .before in (start .pre .0, rested start (c .enum-told .given .1)))
     (λ c. refused _ _ _ _ _ (c .before .decision .given .1))
     (λ c. changed _ _ _ _ _ _ (c .before .before .decision2 .given .1) (c .apply .ensures))
     (λ c.

@@ -12,7 +12,7 @@ step-spec =
     (λ c κs. c .pre)
     (λ c κs.
     let start = c .before .args in
-    (c .before .pre, subst (Rests (start .tables) (start .figures)) (sym (c .decide .ensures)) (rests (start .tables) (start .figures) (start .account) (start .entry))))
+    (c .before .pre, subst (Rests (start .tables) (start .account) (start .figures)) (sym (c .decide .ensures)) (rests (start .tables) (start .figures) (start .account) (c .before .pre) (start .entry))))
     (λ c.
     let start = c .before .before .args in
     c .booked .ensures ∙ ap (bookedBy (start .tables) (start .account) (start .figures)) (c .before .decide .ensures) ∙ stepped (start .tables) (start .account) (start .figures) (start .entry)))

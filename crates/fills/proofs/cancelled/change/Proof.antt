@@ -26,6 +26,7 @@ built : (f : Named) (sheet : Sheet) (place : Resting) (own : ℕ) (after : Chang
     Stays
     (f .place)
     place
+    (f .unit)
     (f .underlying)
     (record { locked = f .holding .locked; bought = record { 0 = f .holding .bought .0 - own } })
     (f .last)

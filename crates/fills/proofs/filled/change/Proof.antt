@@ -31,6 +31,7 @@ module _ (f : Named) (fill : Fill) (kind : OrderKind) (sum : ℕ) (exact : Exact
         position = position;
         place = f .place;
         order = order;
+        unit = f .unit;
         underlying = f .underlying;
         holding = f .holding;
         last = f .last;

@@ -12,8 +12,8 @@ use Rattle.transfers.proofs.units.locking.Statement.{statement}
 use Rattle.transfers.proofs.units.locking.Tie as tie
 
 built : (a : Account) (u units : ℕ) (r : Resting) (h : Holding) → r ≡ free → h ≡ holding a u
-    → withoutPosition (a .sheet) Stays 32 r u (record { locked = record { 0 = units }; bought = h .bought }) (a .last) ≡ locking a u units
-built a u units r h is before i = withoutPosition (a .sheet) Stays 32 (is i) u (record { locked = record { 0 = units }; bought = before i .bought }) (a .last)
+    → withoutPosition (a .sheet) Stays 32 r 0 u (record { locked = record { 0 = units }; bought = h .bought }) (a .last) ≡ locking a u units
+built a u units r h is before i = withoutPosition (a .sheet) Stays 32 (is i) 0 u (record { locked = record { 0 = units }; bought = before i .bought }) (a .last)
 
 pub locking-spec : {M : Type 1} → statement M
 locking-spec =

@@ -11,6 +11,7 @@ use Rattle.terms.specs.declared.refusal.Refusal.the-variants.{SpareTooFew, OutO
 use Rattle.account.specs.Changes.{decided}
 use Rattle.account.specs.Locks.{unitsAllowed, unlockChange, unlockVerdict}
 use Rattle.account.specs.Rows.{holding}
+use Rattle.account.specs.Running.{running, runningIn}
 use Rattle.account.specs.Sound.{Sound}
 use Rattle.account.specs.Totals.{spareUnits}
 use Rattle.account.specs.declared.account.Account.{Account}
@@ -19,9 +20,6 @@ use Rattle.account.specs.declared.judged.Decision.{Decision}
 use Rattle.account.specs.declared.judged.Decision.the-variants as Decision·of
 use Rattle.account.specs.declared.tables.Tables.{Tables}
 use Rattle.account.proofs.Decided.{Checked, changes, fails, goes-on, refuses}
-use Rattle.totals.specs.Gathered.{heldIn, workingIn}
-use Rattle.totals.specs.declared.held.Held.{Held}
-use Rattle.totals.specs.declared.working.Working.{Working}
 use Rattle.transfers.proofs.Locked.{listed, inside-rows}
 use Rattle.transfers.proofs.units.unlock.Statement.{statement}
 use Rattle.transfers.proofs.units.unlock.Tie as tie
@@ -37,17 +35,23 @@ module _ (t : Tables) (a : Account) (u units : ℕ) where
   abbrev decision : Decision
   decision = decided (unlockVerdict t (spareUnits t a u) u units) change
 
-  -- what both loops come back with, once the first check has passed
-  module _ (h : Held) (w : Working) (held : h ≡ heldIn t a u) (working : w ≡ workingIn t a u 0 0) (first : Bool) (is : first ≡ unitsAllowed t u units) (passed : first ≡ true) where
+  -- what is kept, once the first check has passed
+  module _ (sound : Sound t a) (first : Bool) (is : first ≡ unitsAllowed t u units) (passed : first ≡ true) where
+    there : u < t .m
+    there = listed t a u units sound (sym is ∙ passed)
+
+    kept : running a u ≡ runningIn t a u
+    kept = sound .running u (omega (arith, there, sound .tables .fewUnderlyings))
+
     abbrev spare : ℕ
-    spare = holding a u .locked .0 - h .units - w .reserved
+    spare = holding a u .locked .0 - running a u .taken .0
 
     is-spare : spare ≡ spareUnits t a u .0
     unfolding spareUnits
-    is-spare = rw (held, working) refl
+    is-spare = rw kept (omega arith)
 
-    within : Sound t a → h .units + w .reserved ≤ holding a u .locked .0
-    within sound = rw (held, working) (sound .units u (listed t a u units sound (sym is ∙ passed)))
+    within : running a u .taken .0 ≤ holding a u .locked .0
+    within = rw kept (sound .units u there)
 
     refused : spare < units → Decision·of.Refused SpareTooFew ≡ decision
     refused less = refuses _ change _ (fails (goes-on asked is passed) {found = false} (sym (ap (leb units) (sym is-spare) ∙ lt-leb units spare less)) refl)
@@ -55,37 +59,30 @@ module _ (t : Tables) (a : Account) (u units : ℕ) where
     accepted : units ≤ spare → (made : Change) → made ≡ change → Decision·of.Changes made ≡ decision
     accepted reach = changes _ change (goes-on (goes-on asked is passed) {found = true} (sym (ap (leb units) (sym is-spare) ∙ le-leb units spare reach)) refl .are)
 
--- what the function knows behind its loops
-module _ (c : tie.After-working-in) where
-  abbrev passed : tie.Else1
-  passed = c .before .before .before
-
+-- what the function knows behind its first check
+module _ (passed : tie.Else1) where
   abbrev start : tie.Start
   start = passed .before .before
 
-  abbrev left : ℕ
-  left = holding (start .args .t2) (start .args .underlying) .locked .0 - c .before .held-in .result .units - c .working-in .result .reserved
+  taken-within : running (start .args .t2) (start .args .underlying) .taken .0 ≤ holding (start .args .t2) (start .args .underlying) .locked .0
+  taken-within = within (start .args .tables) (start .args .t2) (start .args .underlying) (start .args .units) (start .pre) _ (passed .before .allowed .ensures) (not-false _ (passed .if1 .left))
 
-  units-within : c .before .held-in .result .units + c .working-in .result .reserved ≤ holding (start .args .t2) (start .args .underlying) .locked .0
-  units-within =
-      within (start .args .tables) (start .args .t2) (start .args .underlying) (start .args .units) _ _ (c .before .held-in .ensures) (c .working-in .ensures) _ (passed .before .allowed .ensures)
-      (not-false _ (passed .if1 .left))
-      (start .pre)
+  abbrev left : ℕ
+  left = holding (start .args .t2) (start .args .underlying) .locked .0 - running (start .args .t2) (start .args .underlying) .taken .0
 
   too-few : left < start .args .units → Decision·of.Refused SpareTooFew ≡ decision (start .args .tables) (start .args .t2) (start .args .underlying) (start .args .units)
-  too-few =
-      refused (start .args .tables) (start .args .t2) (start .args .underlying) (start .args .units) _ _ (c .before .held-in .ensures) (c .working-in .ensures) _ (passed .before .allowed .ensures)
-      (not-false _ (passed .if1 .left))
+  too-few = refused (start .args .tables) (start .args .t2) (start .args .underlying) (start .args .units) (start .pre) _ (passed .before .allowed .ensures) (not-false _ (passed .if1 .left))
 
   enough : start .args .units ≤ left → (made : Change) → made ≡ unlockChange (start .args .t2) (start .args .underlying) (start .args .units)
       → Decision·of.Changes made ≡ decision (start .args .tables) (start .args .t2) (start .args .underlying) (start .args .units)
-  enough =
-      accepted (start .args .tables) (start .args .t2) (start .args .underlying) (start .args .units) _ _ (c .before .held-in .ensures) (c .working-in .ensures) _ (passed .before .allowed .ensures)
-      (not-false _ (passed .if1 .left))
+  enough = accepted (start .args .tables) (start .args .t2) (start .args .underlying) (start .args .units) (start .pre) _ (passed .before .allowed .ensures) (not-false _ (passed .if1 .left))
+
+  inside : start .args .underlying < 8
+  inside = inside-rows (start .args .tables) (start .args .t2) (start .args .underlying) (start .args .units) (start .pre) (sym (passed .before .allowed .ensures) ∙ not-false _ (passed .if1 .left))
 
 returns-3 : tie.Need-returns-3
 unfolding unlockChange
-returns-3 c = enough (c .before .before .before .before .before .before) (c .before .before .if2 .left) _ (c .locking .ensures)
+returns-3 c = enough (c .before .before .before .before .before .before .before) (c .before .before .if2 .left) _ (c .locking .ensures)
 
 pub unlock-spec : {M : Type 1} → statement M
 unlock-spec =
@@ -96,14 +93,11 @@ unlock-spec =
     let args = c .before .before .args in
     refuses _ _ _ (fails (asked (args .tables) (args .t2) (args .underlying) (args .units)) (c .before .allowed .ensures) (not-true _ (c .if1 .taken))))
     (λ c. search needs)
-    (λ c.
-    let start = c .before .before in
-    inside-rows (start .args .tables) (start .args .t2) (start .args .underlying) (start .args .units) (start .pre) (sym (c .before .allowed .ensures) ∙ not-false _ (c .if1 .left)))
-    (λ c κs. search needs)
-    (λ c κs. search needs)
-    (λ c. omega (arith, units-within (c .before .before)))
-    (λ c. omega (arith, units-within (c .before .before .before)))
-    (λ c. too-few (c .before .before .before .before) (c .if2 .taken))
+    (λ c. inside c)
+    (λ c. search needs)
+    (λ c. inside (c .before))
+    (λ c. taken-within (c .before .before .before .before))
+    (λ c. too-few (c .before .before .before .before .before) (c .if2 .taken))
     (λ c. omega (arith, c .before .if2 .left))
     (λ c κs. refl)
     returns-3)

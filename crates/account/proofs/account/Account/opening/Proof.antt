@@ -2,6 +2,7 @@
 use borrow.Author.Needs.{needs}
 use lib.ListN.{replicate}
 use Rattle.account.specs.Rows.{noPosition, noHolding}
+use Rattle.account.specs.Running.{allFree, noRunning}
 use Rattle.account.proofs.account.Account.opening.Statement.{statement}
 use Rattle.account.proofs.account.Account.opening.Tie as tie
 
@@ -17,5 +18,8 @@ opening-spec =
       positions = replicate 64 noPosition;
       orders = replicate 32 (c .free .ensures i);
       holdings = replicate 8 noHolding;
+      running = replicate 8 noRunning;
+      closing = replicate 64 noPosition;
+      free = allFree;
       last = 0;
     }))

@@ -13,4 +13,4 @@ of-sheet-spec =
     (tie.spec
     (λ c κs. search needs)
     (λ c κs. search needs)
-    (λ c. c .without-position .ensures ∙ ap (λ (r : Resting). withoutPosition (c .before .before .args .sheet) (c .before .before .args .waiting) 32 r 8 noHolding (c .before .before .args .last)) (c .before .free .ensures)))
+    (λ c. c .without-position .ensures ∙ ap (λ (r : Resting). withoutPosition (c .before .before .args .sheet) (c .before .before .args .waiting) 32 r 0 8 noHolding (c .before .before .args .last)) (c .before .free .ensures)))

@@ -1,0 +1,6 @@
+# bench.sh [--quick]: compares the answers of all versions and times them over the same bytes, optimised alike; prints the tables and draws
+# docs/performance.svg. With --quick a few rounds are run and nothing is drawn, to see that the answers agree.
+set -eu
+cd "$(dirname "$0")/.."
+PROFILE=speed sh tests/cargo.sh build --package bench
+exec host/target/speed/bench "${1:-docs/performance.svg}"
