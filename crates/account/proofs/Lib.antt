@@ -33,6 +33,7 @@ pub mod Payouts
 pub mod Placed
 pub mod Received
 pub mod Rows
+pub mod SeenRows
 pub mod Standing
 pub mod StepHeld
 pub mod StepMovable

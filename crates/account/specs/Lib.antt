@@ -10,6 +10,7 @@ pub mod Opening
 pub mod Orders
 pub mod Rows
 pub mod Running
+pub mod Seen
 pub mod Sound
 pub mod Steps
 pub mod Sums

@@ -3,7 +3,9 @@ use crate::account::Account;
 use crate::account::Holding;
 use crate::account::Resting;
 use crate::account::Sheet;
+use crate::running::Running;
 use crate::tables::Tables;
+use entries::Contract;
 use entries::Underlying;
 use terms::Contracts;
 use terms::Position;
@@ -28,6 +30,25 @@ impl Verdict {
             Verdict::Refused(why) => why.number(),
         }
     }
+}
+
+// What an entry is judged by, read off tables and account where it names them: how many underlyings and contracts there are, the money, the
+// numbers, and the rows of one place, one contract and one underlying. Where it names none, the first row stands there and is not asked.
+pub struct Seen {
+    pub n: usize,
+    pub m: usize,
+    pub sheet: Sheet,
+    pub waiting: u64,
+    pub last: u32,
+    pub free: u32,
+    pub place: usize,
+    pub order: Resting,
+    pub contract: Contract,
+    pub position: Position,
+    pub closing: Position,
+    pub limits: Underlying,
+    pub holding: Holding,
+    pub running: Running,
 }
 
 // The facts of an order; of one whose values are not allowed nothing else is known. Position is the count that the order moves and

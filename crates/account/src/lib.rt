@@ -14,6 +14,7 @@ pub use judged::Decision;
 pub use judged::Facts;
 pub use judged::Named;
 pub use judged::Outcome;
+pub use judged::Seen;
 pub use judged::Verdict;
 pub use judged::Waiting;
 pub use running::Running;

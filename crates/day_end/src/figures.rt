@@ -1,7 +1,9 @@
 // A day end's figures: whether they are allowed, and the tables with them.
 use account::Decision;
+use account::Seen;
 use account::Tables;
 use entries::Contract;
+use entries::Entry;
 use entries::Figures;
 use entries::Underlying;
 use terms::Measure;
@@ -13,14 +15,15 @@ ghost use Rattle.terms.specs.Ranges.{rangeOf, _∈_};
 ghost use Rattle.account.specs.Changes.{ending};
 ghost use Rattle.account.specs.DayEnd.{closed, dayEndVerdict, every, figuresInstalled, settled};
 ghost use Rattle.account.specs.Rows.{noContract, noUnderlying};
+ghost use Rattle.account.specs.Seen.{SeenOf, Wherever};
 ghost use Rattle.account.specs.Sound.{SoundTables};
 ghost use Rattle.day_end.specs.Passes.{changedTo};
 
-pub fn decide(tables: Tables, n: u16, m: u16, figures: Figures) -> Decision
-    requires { ⌜ SoundTables tables ⌝ }
-    ensures { λ r. ⌜ r ≡ ending (dayEndVerdict tables n m figures) ⌝ }
+pub fn decide(seen: Seen, n: u16, m: u16, figures: Figures) -> Decision
+    requires { ⌜ SeenOf (Entry.DayEnd n m) seen ⌝ }
+    ensures { λ r. ⌜ Wherever (Entry.DayEnd n m) seen (λ t a. r ≡ ending (dayEndVerdict t n m figures)) ⌝ }
 {
-    if (n as usize != tables.n) | (m as usize != tables.m) {
+    if (n as usize != seen.n) | (m as usize != seen.m) {
         return Decision::Refused(Refusal::OutOfRange);
     }
     let settlements = figures.settlements;

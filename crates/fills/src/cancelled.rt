@@ -1,13 +1,13 @@
 // A cancel: 7, or the place is free, the rest of the hold is freed and a buy open's remainder is off the daily count.
-use account::Account;
 use account::Change;
 use account::Decision;
 use account::Holding;
 use account::Named;
 use account::Resting;
-use account::Tables;
+use account::Seen;
 use account::Waiting;
 use account::counted;
+use entries::Entry;
 use postings::Posting;
 use postings::posted;
 use resting::Found;
@@ -17,14 +17,16 @@ use terms::Refusal;
 ghost use mathlib.Core.Path.{_≡_};
 ghost use Rattle.account.specs.Changes.{decided};
 ghost use Rattle.account.specs.Fills.{cancelChange, cancelVerdict, named};
-ghost use Rattle.account.specs.Sound.{Sound};
+ghost use Prim.Native.Nat.{ℕ};
+ghost use Rattle.account.specs.Seen.{Wherever};
+ghost use Rattle.resting.specs.Found.{NumberSees};
 ghost use Rattle.fills.specs.Takes.{Cancellable};
 
-pub fn cancel(tables: Tables, account: Account, number: u32) -> Decision
-    requires { ⌜ Sound tables account ⌝ }
-    ensures { λ r. ⌜ r ≡ decided (cancelVerdict (named tables account number)) (cancelChange (named tables account number)) ⌝ }
+pub fn cancel(seen: Seen) -> Decision
+    requires { ⌜ NumberSees seen ⌝ }
+    ensures { λ r. ⌜ ((number : ℕ) → Wherever (Entry.Cancel number) seen (λ t a. r ≡ decided (cancelVerdict (named t a number)) (cancelChange (named t a number)))) ⌝ }
 {
-    let Found::At(named) = find(tables, account, number) else {
+    let Found::At(named) = find(seen) else {
         return Decision::Refused(Refusal::NoSuchOrder);
     };
     Decision::Changes(change(named))

@@ -2,12 +2,12 @@
 use crate::after::moved;
 use crate::after::order_after;
 use crate::after::sheet_after;
-use account::Account;
 use account::Change;
 use account::Decision;
 use account::Named;
-use account::Tables;
+use account::Seen;
 use account::Waiting;
+use entries::Entry;
 use entries::Fill;
 use money::premium_one;
 use resting::Found;
@@ -19,18 +19,18 @@ use terms::Refusal;
 ghost use mathlib.Core.Path.{_≡_};
 ghost use Rattle.account.specs.Changes.{decided};
 ghost use Rattle.account.specs.Fills.{fillChange, fillVerdict, named, priceAllowed};
-ghost use Rattle.account.specs.Sound.{Sound};
+ghost use Rattle.account.specs.Seen.{SeenOf, Wherever};
 ghost use Rattle.fills.specs.Takes.{Exact, Fillable};
 
-pub fn fill(tables: Tables, account: Account, fill: Fill) -> Decision
-    requires { ⌜ Sound tables account ⌝ }
-    ensures { λ r. ⌜ r ≡ decided (fillVerdict (named tables account (fill .number)) fill) (fillChange (named tables account (fill .number)) fill) ⌝ }
+pub fn fill(seen: Seen, fill: Fill) -> Decision
+    requires { ⌜ SeenOf (Entry.Fill fill) seen ⌝ }
+    ensures { λ r. ⌜ Wherever (Entry.Fill fill) seen (λ t a. r ≡ decided (fillVerdict (named t a (fill .number)) fill) (fillChange (named t a (fill .number)) fill)) ⌝ }
 {
     if !(Measure::Quantity.allows(fill.quantity as u64)
         & Measure::Price.allows(fill.price as u64)) {
         return Decision::Refused(Refusal::OutOfRange);
     }
-    let Found::At(named) = find(tables, account, fill.number) else {
+    let Found::At(named) = find(seen) else {
         return Decision::Refused(Refusal::NoSuchOrder);
     };
     decide(named, fill)

@@ -1,9 +1,9 @@
 // The facts of an order.
-use account::Account;
 use account::Facts;
 use account::Holding;
+use account::Seen;
 use account::Sheet;
-use account::Tables;
+use entries::Entry;
 use entries::Order;
 use entries::Underlying;
 use money::available;
@@ -16,17 +16,17 @@ use terms::Right;
 use terms::Side;
 use terms::Units;
 ghost use mathlib.Core.Path.{_≡_};
-ghost use mathlib.Core.Bool.{true};
 ghost use Rattle.account.specs.Orders.{coveredPut, factsIn, factsOf, noFacts, orderAllowed};
-ghost use Rattle.account.specs.Sound.{Sound, SoundTables};
+ghost use Rattle.account.specs.Seen.{SeenOf, Wherever};
+ghost use Rattle.gathering.specs.Allowed.{AllowedSeen};
 ghost use Rattle.account.specs.Totals.{countOf};
 
-pub fn gather(tables: Tables, account: Account, order: Order) -> Facts
-    requires { ⌜ Sound tables account ⌝ }
-    ensures { λ r. ⌜ r ≡ factsOf tables account order ⌝ }
+pub fn gather(seen: Seen, order: Order) -> Facts
+    requires { ⌜ SeenOf (Entry.Order order) seen ⌝ }
+    ensures { λ r. ⌜ Wherever (Entry.Order order) seen (λ t a. r ≡ factsOf t a order) ⌝ }
 {
-    if allowed(tables, order) {
-        known(tables, account, order)
+    if allowed(seen, order) {
+        known(seen, order)
     } else {
         no_facts()
     }
@@ -34,27 +34,25 @@ pub fn gather(tables: Tables, account: Account, order: Order) -> Facts
 
 // The facts of an order whose values are allowed. Nothing is summed: the account keeps what would be. Each free place is a binary digit, so the
 // lowest one is where the zeros at the end of that number stop.
-fn known(tables: Tables, account: Account, order: Order) -> Facts
-    requires { ⌜ Sound tables account × (orderAllowed tables order ≡ true) ⌝ }
-    ensures { λ r. ⌜ r ≡ factsIn tables account order ⌝ }
+fn known(seen: Seen, order: Order) -> Facts
+    requires { ⌜ AllowedSeen order seen ⌝ }
+    ensures { λ r. ⌜ Wherever (Entry.Order order) seen (λ t a. r ≡ factsIn t a order) ⌝ }
 {
     let kind = order.kind;
-    let c = order.contract as usize;
-    let contract = tables.contracts[c];
-    let u = contract.underlying as usize;
-    let limits = tables.underlyings[u];
-    let holding = account.holdings[u];
-    let running = account.running[u];
+    let contract = seen.contract;
+    let limits = seen.limits;
+    let holding = seen.holding;
+    let running = seen.running;
     let total = running.total;
-    let position = account.positions[c];
-    let closing = account.closing[c];
+    let position = seen.position;
+    let closing = seen.closing;
     let side = kind.moves();
-    let sheet = account.sheet;
+    let sheet = seen.sheet;
     let quantity = Contracts(order.quantity);
     Facts {
         allowed: true,
-        last: account.last,
-        place: u32::trailing_zeros(account.free) as usize,
+        last: seen.last,
+        place: u32::trailing_zeros(seen.free) as usize,
         position: Contracts(count(side, position)),
         closing: Contracts(count(side, closing)),
         rights: Contracts(running.long.0 + running.buys.0),
@@ -72,16 +70,13 @@ fn known(tables: Tables, account: Account, order: Order) -> Facts
 }
 
 // Whether the order's values are in their ranges and its contract in the tables; covered is for calls only.
-fn allowed(tables: Tables, order: Order) -> bool
-    requires { ⌜ SoundTables tables ⌝ }
-    ensures { λ r. ⌜ r ≡ orderAllowed tables order ⌝ }
+fn allowed(seen: Seen, order: Order) -> bool
+    ensures { λ r. ⌜ Wherever (Entry.Order order) seen (λ t a. r ≡ orderAllowed t order) ⌝ }
 {
-    let n = tables.n;
-    let c = order.contract as usize;
-    if c >= n {
+    if order.contract as usize >= seen.n {
         return false;
     }
-    let contract = tables.contracts[c];
+    let contract = seen.contract;
     let right = contract.right;
     let kind = order.kind;
     Measure::Quantity.allows(order.quantity as u64)

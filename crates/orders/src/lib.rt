@@ -2,25 +2,25 @@
 mod change;
 mod checks;
 
-use account::Account;
 use account::Decision;
-use account::Tables;
+use account::Seen;
 use account::Verdict;
 use change::change;
 use checks::verdict;
+use entries::Entry;
 use entries::Order;
 use gathering::gather;
 ghost use mathlib.Core.Path.{_≡_};
 ghost use Rattle.account.specs.Changes.{decided};
 ghost use Rattle.account.specs.Checks.{orderVerdict};
 ghost use Rattle.account.specs.Orders.{factsOf, orderChange};
-ghost use Rattle.account.specs.Sound.{Sound};
+ghost use Rattle.account.specs.Seen.{SeenOf, Wherever};
 
-pub fn order(tables: Tables, account: Account, order: Order) -> Decision
-    requires { ⌜ Sound tables account ⌝ }
-    ensures { λ r. ⌜ r ≡ decided (orderVerdict (factsOf tables account order) order) (orderChange (factsOf tables account order) order) ⌝ }
+pub fn order(seen: Seen, order: Order) -> Decision
+    requires { ⌜ SeenOf (Entry.Order order) seen ⌝ }
+    ensures { λ r. ⌜ Wherever (Entry.Order order) seen (λ t a. r ≡ decided (orderVerdict (factsOf t a order) order) (orderChange (factsOf t a order) order)) ⌝ }
 {
-    let facts = gather(tables, account, order);
+    let facts = gather(seen, order);
     match verdict(facts, order) {
         Verdict::Refused(why) => Decision::Refused(why),
         Verdict::Accepted => Decision::Changes(change(facts, order)),

@@ -1,25 +1,24 @@
 // The order that a number names, or nothing.
 use crate::named::named_at;
-use crate::named::place_of;
-use account::Account;
 use account::Named;
-use account::Tables;
+use account::Seen;
+use entries::Entry;
 ghost use mathlib.Core.Path.{_≡_};
-ghost use Rattle.account.specs.Sound.{Sound};
-ghost use Rattle.resting.specs.Found.{foundBy};
+ghost use Prim.Native.Nat.{ℕ};
+ghost use Rattle.account.specs.Seen.{Wherever};
+ghost use Rattle.resting.specs.Found.{NumberSees, foundBy};
 
 pub enum Found {
     At(Named),
     Nothing,
 }
 
-pub fn find(tables: Tables, account: Account, number: u32) -> Found
-    requires { ⌜ Sound tables account ⌝ }
-    ensures { λ r. ⌜ r ≡ foundBy tables account number ⌝ }
+pub fn find(seen: Seen) -> Found
+    requires { ⌜ NumberSees seen ⌝ }
+    ensures { λ r. ⌜ ((number : ℕ) → Wherever (Entry.Cancel number) seen (λ t a. r ≡ foundBy t a number)) ⌝ }
 {
-    let place = place_of(account, number);
-    if place >= terms::PLACES {
+    if seen.place >= terms::PLACES {
         return Found::Nothing;
     }
-    Found::At(named_at(tables, account, place))
+    Found::At(named_at(seen))
 }

@@ -1,48 +1,31 @@
-// The place of the order that has a number, and what the order at a place is judged by.
-use account::Account;
+// What a resting order is judged by.
 use account::Named;
 use account::Resting;
-use account::Tables;
+use account::Seen;
+use entries::Entry;
 use money::hold_one;
 use money::margin_one;
 use terms::OrderKind;
 use terms::OrderKindCoded;
 ghost use mathlib.Core.Path.{_≡_};
-ghost use Prim.Native.Nat.{_≤_, _<_};
-ghost use Rattle.account.specs.Fills.{namedAt, placeOf};
+ghost use Prim.Native.Nat.{ℕ, _<_};
+ghost use Rattle.account.specs.Fills.{named};
 ghost use Rattle.account.specs.Money.{kindOf};
-ghost use Rattle.account.specs.Rows.{order};
-ghost use Rattle.account.specs.Sound.{Sound};
+ghost use Rattle.account.specs.Seen.{Wherever};
+ghost use Rattle.resting.specs.Found.{NumberSees};
 
-// The order's place, or 32 where none has the number. A free place holds zero, which names no order.
-pub(crate) fn place_of(account: Account, number: u32) -> usize
-    ensures { λ r. ⌜ r ≡ placeOf account number ⌝ }
+pub(crate) fn named_at(seen: Seen) -> Named
+    requires { ⌜ NumberSees seen × (seen .place < 32) ⌝ }
+    ensures { λ r. ⌜ ((number : ℕ) → Wherever (Entry.Cancel number) seen (λ t a. r ≡ named t a number)) ⌝ }
 {
-    let mut i = 0;
-    while i < terms::PLACES {
-        let order = account.orders[i];
-        if (order.number == number) & (number != 0) {
-            return i;
-        }
-        i += 1;
-    }
-    i
-}
-
-pub(crate) fn named_at(tables: Tables, account: Account, place: usize) -> Named
-    requires { ⌜ Sound tables account × (place < 32) × (1 ≤ order account place .number) ⌝ }
-    ensures { λ r. ⌜ r ≡ namedAt tables account place (order account place) ⌝ }
-{
-    let order = account.orders[place];
-    let c = order.contract as usize;
-    let contract = tables.contracts[c];
-    let u = contract.underlying as usize;
-    let row = tables.underlyings[u];
-    let position = account.positions[c];
-    let holding = account.holdings[u];
-    let sheet = account.sheet;
+    let order = seen.order;
+    let contract = seen.contract;
+    let row = seen.limits;
+    let position = seen.position;
+    let holding = seen.holding;
+    let sheet = seen.sheet;
     Named {
-        place,
+        place: seen.place,
         order,
         position,
         unit: contract.unit,
@@ -51,7 +34,7 @@ pub(crate) fn named_at(tables: Tables, account: Account, place: usize) -> Named
         hold: hold_one(kind_of(order), contract, row, order.price),
         margin: margin_one(contract, row),
         sheet,
-        last: account.last,
+        last: seen.last,
     }
 }
 

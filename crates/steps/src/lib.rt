@@ -1,7 +1,8 @@
-// One step for every entry: it is decided on tables and account, and what is decided is booked.
+// One step for every entry: it is decided on what it sees of tables and account, and what is decided is booked.
 use account::Account;
 use account::Decision;
 use account::Outcome;
+use account::Seen;
 use account::Tables;
 use account::Verdict;
 use day_end::ended;
@@ -9,6 +10,7 @@ use entries::Entry;
 use entries::Figures;
 use fills::cancel;
 use fills::fill;
+use gathering::see;
 use orders::order;
 use terms::Refusal;
 use transfers::deposit;
@@ -18,6 +20,7 @@ use transfers::pay;
 use transfers::unlock;
 use transfers::withdraw;
 ghost use mathlib.Core.Path.{_≡_};
+ghost use Rattle.account.specs.Seen.{SeenOf, Wherever};
 ghost use Rattle.account.specs.Sound.{Sound};
 ghost use Rattle.account.specs.Steps.{step};
 ghost use Rattle.steps.specs.Booked.{Rests, bookedBy, decisionOn};
@@ -26,37 +29,38 @@ pub fn step(tables: Tables, account: Account, entry: Entry, figures: Figures) ->
     requires { ⌜ Sound tables account ⌝ }
     ensures { λ r. ⌜ r ≡ step tables account entry figures ⌝ }
 {
-    let decision = decide(tables, account, entry, figures);
+    let seen = see(tables, account, entry);
+    let decision = decide(seen, entry, figures);
     booked(tables, account, figures, decision)
 }
 
 // Each kind is decided in its crate. Set-up has ended, so its records are out of their place.
-pub fn decide(tables: Tables, account: Account, entry: Entry, figures: Figures) -> Decision
-    requires { ⌜ Sound tables account ⌝ }
-    ensures { λ r. ⌜ r ≡ decisionOn tables account entry figures ⌝ }
+pub fn decide(seen: Seen, entry: Entry, figures: Figures) -> Decision
+    requires { ⌜ SeenOf entry seen ⌝ }
+    ensures { λ r. ⌜ Wherever entry seen (λ t a. r ≡ decisionOn t a entry figures) ⌝ }
 {
     match entry {
         Entry::Deposit(amount) => {
-            let sheet = account.sheet;
-            deposit(sheet, account.last, amount)
+            let sheet = seen.sheet;
+            deposit(sheet, seen.last, amount)
         }
         Entry::Withdraw(amount) => {
-            let sheet = account.sheet;
-            withdraw(sheet, account.waiting, account.last, amount)
+            let sheet = seen.sheet;
+            withdraw(sheet, seen.waiting, seen.last, amount)
         }
-        Entry::Lock { underlying, units } => lock(tables, account, underlying, units),
-        Entry::Unlock { underlying, units } => unlock(tables, account, underlying, units),
-        Entry::Order(asked) => order(tables, account, asked),
-        Entry::Fill(asked) => fill(tables, account, asked),
-        Entry::Cancel { number } => cancel(tables, account, number),
-        Entry::DayEnd { n, m } => day_end::decide(tables, n, m, figures),
+        Entry::Lock { underlying, units } => lock(seen, underlying, units),
+        Entry::Unlock { underlying, units } => unlock(seen, underlying, units),
+        Entry::Order(asked) => order(seen, asked),
+        Entry::Fill(asked) => fill(seen, asked),
+        Entry::Cancel { number: _ } => cancel(seen),
+        Entry::DayEnd { n, m } => day_end::decide(seen, n, m, figures),
         Entry::Pay => {
-            let sheet = account.sheet;
-            pay(sheet, account.waiting, account.last)
+            let sheet = seen.sheet;
+            pay(sheet, seen.waiting, seen.last)
         }
         Entry::Drop => {
-            let sheet = account.sheet;
-            drop(sheet, account.waiting, account.last)
+            let sheet = seen.sheet;
+            drop(sheet, seen.waiting, seen.last)
         }
         Entry::Underlying(_) => Decision::Refused(Refusal::OutOfPlace),
         Entry::Contract(_) => Decision::Refused(Refusal::OutOfPlace),

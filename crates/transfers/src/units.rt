@@ -1,79 +1,80 @@
 // Units of an underlying locked and unlocked.
-use account::Account;
 use account::Change;
 use account::Decision;
 use account::Holding;
 use account::Resting;
-use account::Tables;
+use account::Seen;
 use account::Waiting;
+use entries::Entry;
 use terms::Measure;
 use terms::Refusal;
 use terms::Units;
 ghost use mathlib.Core.Path.{_≡_};
-ghost use Prim.Native.Nat.{_<_};
+ghost use mathlib.Core.Bool.{_&&_};
+ghost use lib.Dec.{ltb};
+ghost use Rattle.terms.specs.Ranges.{rangeOf, _∈_};
 ghost use Rattle.account.specs.Changes.{decided};
-ghost use Rattle.account.specs.Locks.{lockChange, lockVerdict, locking, unitsAllowed, unlockChange, unlockVerdict};
+ghost use Rattle.account.specs.Locks.{lockChange, lockVerdict, unlockChange, unlockVerdict};
 ghost use Rattle.account.specs.Rows.{holding};
-ghost use Rattle.account.specs.Sound.{Sound};
+ghost use Rattle.account.specs.Seen.{SeenOf, Wherever};
+ghost use Rattle.transfers.specs.Locked.{lockedSeen};
 ghost use Rattle.account.specs.Totals.{spareUnits};
 
-pub fn lock(tables: Tables, account: Account, underlying: u16, units: u32) -> Decision
-    requires { ⌜ Sound tables account ⌝ }
-    ensures { λ r. ⌜ r ≡ decided (lockVerdict tables (holding account underlying) underlying units) (lockChange account underlying units) ⌝ }
+pub fn lock(seen: Seen, underlying: u16, units: u32) -> Decision
+    requires { ⌜ SeenOf (Entry.Lock underlying units) seen ⌝ }
+    ensures { λ r. ⌜ Wherever (Entry.Lock underlying units) seen (λ t a. r ≡ decided (lockVerdict t (holding a underlying) underlying units) (lockChange a underlying units)) ⌝ }
 {
-    if !allowed(tables, underlying, units) {
+    if !allowed(seen.m, underlying, units) {
         return Decision::Refused(Refusal::OutOfRange);
     }
-    let u = underlying as usize;
-    let holding = account.holdings[u];
+    let holding = seen.holding;
     let locked = holding.locked.0 + units as u64;
     if !Measure::LockedUnits.allows(locked) {
         return Decision::Refused(Refusal::CeilingPassed);
     }
-    Decision::Changes(locking(account, u, holding, locked))
+    Decision::Changes(locking(seen, underlying, locked))
 }
 
-pub fn unlock(tables: Tables, account: Account, underlying: u16, units: u32) -> Decision
-    requires { ⌜ Sound tables account ⌝ }
-    ensures { λ r. ⌜ r ≡ decided (unlockVerdict tables (spareUnits tables account underlying) underlying units) (unlockChange account underlying units) ⌝ }
+pub fn unlock(seen: Seen, underlying: u16, units: u32) -> Decision
+    requires { ⌜ SeenOf (Entry.Unlock underlying units) seen ⌝ }
+    ensures { λ r. ⌜ Wherever (Entry.Unlock underlying units) seen (λ t a. r ≡ decided (unlockVerdict t (spareUnits t a underlying) underlying units) (unlockChange a underlying units)) ⌝ }
 {
-    if !allowed(tables, underlying, units) {
+    if !allowed(seen.m, underlying, units) {
         return Decision::Refused(Refusal::OutOfRange);
     }
-    let u = underlying as usize;
-    let holding = account.holdings[u];
-    let running = account.running[u];
+    let holding = seen.holding;
+    let running = seen.running;
     if units as u64 > holding.locked.0 - running.taken.0 {
         return Decision::Refused(Refusal::SpareTooFew);
     }
     let locked = holding.locked.0 - units as u64;
-    Decision::Changes(locking(account, u, holding, locked))
+    Decision::Changes(locking(seen, underlying, locked))
 }
 
-fn allowed(tables: Tables, underlying: u16, units: u32) -> bool
-    ensures { λ r. ⌜ r ≡ unitsAllowed tables underlying units ⌝ }
+fn allowed(m: usize, underlying: u16, units: u32) -> bool
+    ensures { λ r. ⌜ r ≡ (ltb underlying m && (units ∈ rangeOf Measure.UnitsAtOnce)) ⌝ }
 {
-    ((underlying as usize) < tables.m) & Measure::UnitsAtOnce.allows(units as u64)
+    ((underlying as usize) < m) & Measure::UnitsAtOnce.allows(units as u64)
 }
 
 // The underlying's holding with so many units locked; nothing else changes.
-fn locking(account: Account, underlying: usize, before: Holding, locked: u64) -> Change
-    requires { ⌜ before ≡ holding account underlying ⌝ }
-    ensures { λ r. ⌜ r ≡ locking account underlying locked ⌝ }
+fn locking(seen: Seen, underlying: u16, locked: u64) -> Change
+    ensures { λ r. ⌜ r ≡ lockedSeen seen underlying locked ⌝ }
 {
+    let before = seen.holding;
     let bought = before.bought;
-    let sheet = account.sheet;
+    let sheet = seen.sheet;
     Change::without_position(
         sheet,
         Waiting::Stays,
         terms::PLACES,
         Resting::free(),
         0,
-        underlying,
+        underlying as usize,
         Holding {
             locked: Units(locked),
             bought,
         },
-        account.last,
+        seen.last,
     )
 }
