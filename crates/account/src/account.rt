@@ -107,79 +107,65 @@ impl Account {
 
     // The one place that writes a change into an account: what changed, and what is kept of it, which moves by what stood there and what
     // stands there now. A number past the last contract, place or underlying names none: what it would write is not there.
-    pub fn apply(self, change: Change) -> Account
+    pub fn apply(mut self, change: Change) -> Account
         requires { ⌜ Movable self change ⌝ }
         ensures { λ r. ⌜ r ≡ applied self change ⌝ }
     {
         let position = change.position;
         let order = change.order;
-        let unit = change.unit;
-        let was = self.position_at(change.contract);
-        let had = self.order_at(change.place);
-        let mut after = self.written(change);
-        after.free = free_moved(self.free, change.place, had, order);
-        let c = ordered(had, order);
+        let mut was = Position {
+            long: Contracts(0),
+            short: Contracts(0),
+            covered: Contracts(0),
+        };
+        let c = change.contract;
         if c < terms::CONTRACTS {
-            let closing = after.closing[c];
-            after.closing[c] = closing_changed(closing, had, order);
+            was = self.positions[c];
+        }
+        let mut had = Resting::free();
+        let i = change.place;
+        if i < terms::PLACES {
+            had = self.orders[i];
+        }
+        self.free = free_moved(self.free, i, had, order);
+        let o = ordered(had, order);
+        if o < terms::CONTRACTS {
+            let closing = self.closing[o];
+            self.closing[o] = closing_changed(closing, had, order);
         }
         let u = change.underlying;
         if u < terms::UNDERLYINGS {
-            let running = after.running[u];
-            after.running[u] = running.changed(unit, was, had, position, order);
+            let running = self.running[u];
+            self.running[u] = running.changed(change.unit, was, had, position, order);
         }
-        after
+        self.written(change)
     }
 
     // The change alone, with all that is kept as it was.
-    fn written(self, change: Change) -> Account
+    fn written(mut self, change: Change) -> Account
         ensures { λ r. ⌜ r ≡ written self change ⌝ }
     {
-        let mut after = self;
         let c = change.contract;
         let position = change.position;
         if c < terms::CONTRACTS {
-            after.positions[c] = position;
+            self.positions[c] = position;
         }
         let i = change.place;
         let order = change.order;
         if i < terms::PLACES {
-            after.orders[i] = order;
+            self.orders[i] = order;
         }
         let u = change.underlying;
         let holding = change.holding;
         if u < terms::UNDERLYINGS {
-            after.holdings[u] = holding;
+            self.holdings[u] = holding;
         }
         let sheet = change.sheet;
-        after.sheet = sheet;
+        self.sheet = sheet;
         let waiting = change.waiting;
-        after.waiting = waiting.after(self.waiting);
-        after.last = change.last;
-        after
-    }
-
-    // The position of a contract, and the order at a place; past the last there is none.
-    fn position_at(self, c: usize) -> Position
-        ensures { λ r. ⌜ r ≡ position self c ⌝ }
-    {
-        if c < terms::CONTRACTS {
-            return self.positions[c];
-        }
-        Position {
-            long: Contracts(0),
-            short: Contracts(0),
-            covered: Contracts(0),
-        }
-    }
-
-    fn order_at(self, i: usize) -> Resting
-        ensures { λ r. ⌜ r ≡ order self i ⌝ }
-    {
-        if i < terms::PLACES {
-            return self.orders[i];
-        }
-        Resting::free()
+        self.waiting = waiting.after(self.waiting);
+        self.last = change.last;
+        self
     }
 }
 

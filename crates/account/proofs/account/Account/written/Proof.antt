@@ -68,7 +68,7 @@ all : (a b c d : Account) (waits : ℕ) (ch : Change) → b ≡ positioned ch a 
 all a b c d waits ch first second third fourth = ap₂ (told ch) (third ∙ ap (stocked ch) (second ∙ ap (ordered ch) first)) fourth
 
 -- the arrays have as many rows as their types say
-sizes : (start : tie.Start) → (length (start .args .self .positions) ≡ 64) × ((length (start .args .self .orders) ≡ 32) × (length (start .args .self .holdings) ≡ 8))
+sizes : (start : tie.Start) → (length (start .args .t1 .positions) ≡ 64) × ((length (start .args .t1 .orders) ≡ 32) × (length (start .args .t1 .holdings) ≡ 8))
 sizes start = (search (counted, needs), (search (counted, needs), search (counted, needs)))
 
 returns : tie.Need-returns
@@ -77,17 +77,18 @@ returns c =
     let second = third .before .before in
     let first = second .before .before in
     let start = first .before .before in
-    let a = start .args .self in
+    let a = start .args .t1 in
     let ch = start .args .change in
-    let b = first .if1 .after in
-    let d = second .if2 .after in
+    let b = first .if1 .self in
+    let d = second .if2 .self in
     let rows = sizes start in
     let into-positions = row-set 64 (a .positions) (rows .0) (ch .contract) (ch .position) (with-positions a) b (first .if1 .came) (λ r. r .1) (λ r. (r .0 .left, r .1)) in
     let places = ap (λ (x : Account). length (x .orders)) into-positions ∙ rows .1 .0 in
     let into-orders = row-set 32 (b .orders) places (ch .place) (ch .order) (with-orders b) d (second .if2 .came) (λ r. r .1) (λ r. (r .0 .left, r .1)) in
     let stocks = ap (λ (x : Account). length (x .holdings)) (into-orders ∙ ap (ordered ch) into-positions) ∙ rows .1 .1 in
     let into-holdings = row-set 8 (d .holdings) stocks (ch .underlying) (ch .holding) (with-holdings d) _ (third .if3 .came) (λ r. r .1) (λ r. (r .0 .left, r .1)) in
-    all a b d _ _ ch into-positions into-orders into-holdings (c .after .ensures)
+    let same : third .if3 .self .waiting ≡ a .waiting = ap (λ (x : Account). x .waiting) (into-holdings ∙ ap (stocked ch) (into-orders ∙ ap (ordered ch) into-positions)) in
+    all a b d _ _ ch into-positions into-orders into-holdings (c .after .ensures ∙ ap (waitingAfter (ch .waiting)) same)
 
 pub written-spec : {M : Type 1} → statement M
 written-spec =
