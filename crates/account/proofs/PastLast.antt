@@ -13,7 +13,7 @@ module _ {A : Type 0} (n : ℕ) (rows : List A) (size : length rows ≡ n) (i : 
   pub none-there : (none : A) → n ≤ i → none ≡ getD rows i none
   none-there none out = sym (List·getD-eq-default rows none (past out))
 
-  pub none-set : (x : A) → n ≤ i → rows ≡ set rows i x
+  none-set : (x : A) → n ≤ i → rows ≡ set rows i x
   none-set x out = sym (set-out rows i x (past out))
 
   -- where two ways meet, one that sets the row and one that leaves it: what has the rows has the row set

@@ -1,5 +1,5 @@
 -- A decision booked is the outcome of its verdict: what it changes where it is accepted, nothing where it is refused. So an entry is stepped as what is decided about it is booked; what is kept of a sound account can be moved with the change, and a day ends only on figures that the tables take.
-use mathlib.Core.Path.{_≡_, refl, sym, ap, _∙_}
+use mathlib.Core.Path.{_≡_, refl, sym, ap, subst, _∙_}
 use mathlib.Core.Bool.{Bool, true, false, cond}
 use Prim.Native.Nat.{ℕ}
 use Rattle.entries.specs.Entries.{kindOf}
@@ -9,6 +9,7 @@ use Rattle.entries.specs.declared.entry.Figures.{Figures}
 use Rattle.entries.proofs.EachKind.{by-day-end}
 use Rattle.account.specs.Changes.{Movable, applied, decided, ending, verdictIn}
 use Rattle.account.specs.DayEnd.{dayEndVerdict, dayEnded, figuresInstalled}
+use Rattle.account.specs.Seen.{SeenOf, Wherever}
 use Rattle.account.specs.Sound.{Sound}
 use Rattle.account.specs.Steps.{accountAfter, changeOf, outcome, refusalOf, step, tablesAfter}
 use Rattle.account.specs.declared.account.Account.{Account}
@@ -16,6 +17,7 @@ use Rattle.account.specs.declared.judged.Change.{Change}
 use Rattle.account.specs.declared.judged.Decision.{Decision}
 use Rattle.account.specs.declared.judged.Decision.the-variants as Decision·of
 use Rattle.account.specs.declared.judged.Outcome.{Outcome}
+use Rattle.account.specs.declared.judged.Seen.{Seen}
 use Rattle.account.specs.declared.judged.Verdict.{Verdict}
 use Rattle.account.specs.declared.judged.Verdict.the-variants.{Accepted, Refused}
 use Rattle.account.specs.declared.tables.Tables.{Tables}
@@ -52,9 +54,13 @@ module _ (t : Tables) (a : Account) (f : Figures) where
       ∙ ap (λ (o : Outcome). o .verdict) (stepped entry)
       ∙ outcome-verdict (refusalOf t a entry f) (tablesAfter t entry f) (accountAfter t a entry f)
 
-  -- in each arm the entry is known
-  pub for-entry : (entry is : Entry) (d : Decision) → entry ≡ is → d ≡ decisionOn t a is f → d ≡ decisionOn t a entry f
-  for-entry entry is d e so = so ∙ sym (ap (λ (any : Entry). decisionOn t a any f) e)
+-- in each arm the entry is known, and what is decided by what it sees
+module _ {s : Seen} (f : Figures) {entry is : Entry} (e : entry ≡ is) where
+  pub as-known : SeenOf entry s → SeenOf is s
+  as-known = subst (λ (any : Entry). SeenOf any s) e
+
+  pub for-entry : {d : Decision} → Wherever is s (λ t a. d ≡ decisionOn t a is f) → Wherever entry s (λ t a. d ≡ decisionOn t a entry f)
+  for-entry {d} so = subst (λ (any : Entry). Wherever any s (λ t a. d ≡ decisionOn t a any f)) (sym e) so
 
 module _ (t : Tables) (f : Figures) where
   -- an accepted day end has as many rows as the tables

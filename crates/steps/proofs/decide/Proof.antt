@@ -1,64 +1,86 @@
--- `decide` meets its contract: in each arm the entry's kind is known, and what its crate decides is what the definition says of that kind.
-use mathlib.Core.Path.{refl}
+-- `decide` meets its contract: in each arm the entry's kind is known, and what its crate decides by what the entry sees is what the definition says of that kind.
+use mathlib.Core.Path.{_≡_, refl, sym, ap, subst, _∙_}
 use borrow.Author.Needs.{needs}
+use Rattle.account.specs.Changes.{decided}
+use Rattle.account.specs.Sound.{SoundPayout, SoundSheet}
 use Rattle.account.specs.Steps.{refusalOf}
+use Rattle.account.specs.Transfers.{depositChange, depositVerdict, dropChange, payChange, payoutVerdict, withdrawChange, withdrawVerdict}
+use Rattle.account.specs.declared.judged.Seen.{Seen}
 use Rattle.account.proofs.Bounds.{payout-sound, sheet-sound}
+use Rattle.account.proofs.SeenRows.{shown}
 use Rattle.steps.specs.Booked.{decisionOn}
-use Rattle.steps.proofs.Booking.{for-entry}
+use Rattle.steps.proofs.Booking.{as-known, for-entry}
 use Rattle.steps.proofs.decide.Statement.{statement}
 use Rattle.steps.proofs.decide.Tie as tie
 
+-- the money that is seen is a sound account's
+module _ (start : tie.Start) where
+  seen-sheet : SoundSheet (start .args .seen .sheet)
+  seen-sheet = subst (λ (s : Seen). SoundSheet (s .sheet)) (sym (shown (start .pre .sees))) (sheet-sound (start .pre .sees .sound))
+
+  seen-payout : SoundPayout (start .args .seen .sheet) (start .args .seen .waiting)
+  seen-payout = subst (λ (s : Seen). SoundPayout (s .sheet) (s .waiting)) (sym (shown (start .pre .sees))) (payout-sound (start .pre .sees .sound))
+
 returns : tie.Need-returns
 unfolding decisionOn refusalOf
-returns c = for-entry _ _ _ _ _ _ (c .before .before .before .entry .given .1) (c .deposit .ensures)
+returns c =
+    let told = c .before .before in
+    for-entry _ (told .before .entry .given .1)
+    (λ t a sees. c .deposit .ensures ∙ ap (λ (s : Seen). decided (depositVerdict (s .sheet) _) (depositChange (s .sheet) (s .last) _)) (shown sees))
 
 returns-2 : tie.Need-returns-2
 unfolding decisionOn refusalOf
-returns-2 c = for-entry _ _ _ _ _ _ (c .before .before .before .entry2 .given .1) (c .withdraw .ensures)
+returns-2 c =
+    for-entry _ (c .before .before .before .entry2 .given .1)
+    (λ t a sees. c .withdraw .ensures ∙ ap (λ (s : Seen). decided (withdrawVerdict (s .sheet) (s .waiting) _) (withdrawChange (s .sheet) (s .last) _)) (shown sees))
 
 returns-3 : tie.Need-returns-3
 unfolding decisionOn refusalOf
-returns-3 c = for-entry _ _ _ _ _ _ (c .before .before .entry3 .given .1) (c .lock .ensures)
+returns-3 c = for-entry _ (c .before .before .entry3 .given .1) (c .lock .ensures)
 
 returns-4 : tie.Need-returns-4
 unfolding decisionOn refusalOf
-returns-4 c = for-entry _ _ _ _ _ _ (c .before .before .entry4 .given .1) (c .unlock .ensures)
+returns-4 c = for-entry _ (c .before .before .entry4 .given .1) (c .unlock .ensures)
 
 returns-5 : tie.Need-returns-5
 unfolding decisionOn refusalOf
-returns-5 c = for-entry _ _ _ _ _ _ (c .before .before .entry5 .given .1) (c .order .ensures)
+returns-5 c = for-entry _ (c .before .before .entry5 .given .1) (c .order .ensures)
 
 returns-6 : tie.Need-returns-6
 unfolding decisionOn refusalOf
-returns-6 c = for-entry _ _ _ _ _ _ (c .before .before .entry6 .given .1) (c .fill .ensures)
+returns-6 c = for-entry _ (c .before .before .entry6 .given .1) (c .fill .ensures)
 
 returns-7 : tie.Need-returns-7
 unfolding decisionOn refusalOf
-returns-7 c = for-entry _ _ _ _ _ _ (c .before .before .entry7 .given .1) (c .cancel .ensures)
+returns-7 c = for-entry _ (c .before .before .entry7 .given .1) (c .cancel .ensures _)
 
 returns-8 : tie.Need-returns-8
 unfolding decisionOn refusalOf
-returns-8 c = for-entry _ _ _ _ _ _ (c .before .before .entry8 .given .1) (c .decide .ensures)
+returns-8 c = for-entry _ (c .before .before .entry8 .given .1) (c .decide .ensures)
 
 returns-9 : tie.Need-returns-9
 unfolding decisionOn refusalOf
-returns-9 c = for-entry _ _ _ _ _ _ (c .before .before .enum-told .given .1) (c .pay .ensures)
+returns-9 c =
+    for-entry _ (c .before .before .enum-told .given .1)
+    (λ t a sees. c .pay .ensures ∙ ap (λ (s : Seen). decided (payoutVerdict (s .waiting)) (payChange (s .sheet) (s .last) (s .waiting))) (shown sees))
 
 returns-10 : tie.Need-returns-10
 unfolding decisionOn refusalOf
-returns-10 c = for-entry _ _ _ _ _ _ (c .before .before .enum-told2 .given .1) (c .drop .ensures)
+returns-10 c =
+    for-entry _ (c .before .before .enum-told2 .given .1)
+    (λ t a sees. c .drop .ensures ∙ ap (λ (s : Seen). decided (payoutVerdict (s .waiting)) (dropChange (s .sheet) (s .last) (s .waiting))) (shown sees))
 
 returns-11 : tie.Need-returns-11
 unfolding decisionOn refusalOf
-returns-11 c = for-entry _ _ _ _ _ _ (c .enum-told3 .given .1) refl
+returns-11 c = for-entry _ (c .enum-told3 .given .1) (λ t a sees. refl)
 
 returns-12 : tie.Need-returns-12
 unfolding decisionOn refusalOf
-returns-12 c = for-entry _ _ _ _ _ _ (c .enum-told4 .given .1) refl
+returns-12 c = for-entry _ (c .enum-told4 .given .1) (λ t a sees. refl)
 
 returns-13 : tie.Need-returns-13
 unfolding decisionOn refusalOf
-returns-13 c = for-entry _ _ _ _ _ _ (c .enum-told5 .given .1) refl
+returns-13 c = for-entry _ (c .enum-told5 .given .1) (λ t a sees. refl)
 
 pub decide-spec : {M : Type 1} → statement M
 decide-spec =
