@@ -15,6 +15,7 @@ use terms::Position;
 use terms::Right;
 use terms::Side;
 use terms::Units;
+ghost use mathlib.Core.Bool.{true};
 ghost use mathlib.Core.Path.{_≡_};
 ghost use Rattle.account.specs.Orders.{coveredPut, factsIn, factsOf, noFacts, orderAllowed};
 ghost use Rattle.account.specs.Seen.{SeenOf, Wherever};
@@ -36,7 +37,7 @@ pub fn gather(seen: Seen, order: Order) -> Facts
 // lowest one is where the zeros at the end of that number stop.
 fn known(seen: Seen, order: Order) -> Facts
     requires { ⌜ AllowedSeen order seen ⌝ }
-    ensures { λ r. ⌜ Wherever (Entry.Order order) seen (λ t a. r ≡ factsIn t a order) ⌝ }
+    ensures { λ r. ⌜ Wherever (Entry.Order order) seen (λ t a. (orderAllowed t order ≡ true → r ≡ factsIn t a order)) ⌝ }
 {
     let kind = order.kind;
     let contract = seen.contract;

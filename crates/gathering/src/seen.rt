@@ -5,7 +5,6 @@ use account::Seen;
 use account::Tables;
 use entries::Entry;
 ghost use mathlib.Core.Path.{_≡_};
-ghost use Prim.Native.Nat.{_≤_};
 ghost use Rattle.account.specs.Seen.{rowOf, seenBy};
 ghost use Rattle.account.specs.Sound.{Sound};
 

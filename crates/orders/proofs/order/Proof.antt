@@ -46,17 +46,18 @@ pub order-spec : {M : Type 1} → statement M
 order-spec =
     tie.close
     (tie.spec
-    (λ c κs. search needs)
+    (λ c κs. c .pre)
     (λ c κs. tt)
     (λ c. search needs)
     (λ c. search needs)
     (λ c κs.
     let judged = c .before .before in
-    room _ _ _ _ (judged .before .gather .ensures) (judged .before .before .pre) (sym (judged .verdict .ensures) ∙ c .enum-told .given .1))
-    (λ c.
+    let of = judged .before .before .pre in
+    room _ _ _ _ (judged .before .gather .ensures _ _ (of .sees)) (of .sees .sound) (sym (judged .verdict .ensures) ∙ c .enum-told .given .1))
+    (λ c t a sees.
     let judged = c .before .before .before in
-    by-facts _ _ _ _ (judged .before .gather .ensures) _ (refuses _ _ _ (sym (judged .verdict .ensures) ∙ c .before .why .given .1)))
-    (λ c.
+    by-facts t a _ _ (judged .before .gather .ensures t a sees) _ (refuses _ _ _ (sym (judged .verdict .ensures) ∙ c .before .why .given .1)))
+    (λ c t a sees.
     let judged = c .before .before .before in
-    by-facts _ _ _ _ (judged .before .gather .ensures) _
+    by-facts t a _ _ (judged .before .gather .ensures t a sees) _
     (changes _ _ (sym (judged .verdict .ensures) ∙ c .before .enum-told .given .1) _ (c .change .ensures))))

@@ -17,8 +17,10 @@ pub gather-spec : {M : Type 1} → statement M
 gather-spec =
     tie.close
     (tie.spec
-    (λ c κs. c .pre .tables)
-    (λ c κs. (c .before .before .pre, sym (c .before .allowed .ensures) ∙ c .if1 .taken))
     (λ c κs. tt)
-    (λ c. c .known .ensures ∙ sym (facts-known _ _ _ (sym (c .before .before .allowed .ensures) ∙ c .before .if1 .taken)))
-    (λ c. c .no-facts .ensures ∙ sym (none _ _ _ (sym (c .before .before .allowed .ensures) ∙ c .before .if1 .left))))
+    (λ c κs. record { of = c .before .before .pre; allowed = sym (c .before .allowed .ensures _ _ (c .before .before .pre .sees)) ∙ c .if1 .taken })
+    (λ c κs. tt)
+    (λ c t a sees.
+    let allowed = sym (c .before .before .allowed .ensures t a sees) ∙ c .before .if1 .taken in
+    c .known .ensures t a sees allowed ∙ sym (facts-known t a _ allowed))
+    (λ c t a sees. c .no-facts .ensures ∙ sym (none t a _ (sym (c .before .before .allowed .ensures t a sees) ∙ c .before .if1 .left))))
