@@ -9,14 +9,12 @@ use terms::OrderKind;
 use terms::OrderKindCoded;
 ghost use mathlib.Core.Path.{_≡_};
 ghost use Prim.Native.Nat.{ℕ, _<_};
-ghost use Rattle.account.specs.Fills.{named};
+ghost use Rattle.account.specs.Fills.{named, placeOf};
 ghost use Rattle.account.specs.Money.{kindOf};
 ghost use Rattle.account.specs.Seen.{Wherever};
-ghost use Rattle.resting.specs.Found.{NumberSees};
 
 pub(crate) fn named_at(seen: Seen) -> Named
-    requires { ⌜ NumberSees seen × (seen .place < 32) ⌝ }
-    ensures { λ r. ⌜ ((number : ℕ) → Wherever (Entry.Cancel number) seen (λ t a. r ≡ named t a number)) ⌝ }
+    ensures { λ r. ⌜ ((number : ℕ) → Wherever (Entry.Cancel number) seen (λ t a. placeOf a number < 32 → r ≡ named t a number)) ⌝ }
 {
     let order = seen.order;
     let contract = seen.contract;

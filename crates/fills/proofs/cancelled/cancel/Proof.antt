@@ -45,8 +45,10 @@ cancel-spec =
     (λ c κs. search needs)
     (λ c. search needs)
     (λ c. search needs)
-    (λ c. none _ _ _ (c .before .before .find .ensures) (c .enum-told .given .1))
+    (λ c number t a sees. none t a number (c .before .before .find .ensures number t a sees) (c .enum-told .given .1))
     (λ c κs.
     let looked = c .before .before .before in
-    takes _ _ _ (looked .find .ensures) (c .before .named .given .1) (looked .before .pre))
-    (λ c. changed _ _ _ (c .before .before .before .before .find .ensures) (c .before .before .named .given .1) (c .change .ensures)))
+    let of = looked .before .pre .of in
+    takes _ _ _ (looked .find .ensures _ _ _ (of .sees)) (c .before .named .given .1) (of .sees .sound))
+    (λ c number t a sees.
+    changed t a number (c .before .before .before .before .find .ensures number t a sees) (c .before .before .named .given .1) (c .change .ensures)))
