@@ -1,6 +1,6 @@
 -- A lock and an unlock see how many underlyings the tables have, so they test what the definition tests; units that are allowed are of an underlying of the tables, whose rows they then see.
 use mathlib.Core.Path.{_≡_, sym, ap, _∙_}
-use mathlib.Core.Bool.{Bool, true, _&&_}
+use mathlib.Core.Bool.{Bool, true}
 use Prim.Native.Nat.{ℕ, _≤_, _<_}
 use native.Mathlib.Omega.{arith}
 use borrow.Author.Tests.{ltb-true}
@@ -19,7 +19,7 @@ use Rattle.account.specs.declared.account.Account.{Account}
 use Rattle.account.specs.declared.judged.Seen.{Seen}
 use Rattle.account.specs.declared.tables.Tables.{Tables}
 use Rattle.account.proofs.SeenRows.{shown, underlying-shown}
-use Rattle.transfers.specs.Locked.{lockedSeen}
+use Rattle.transfers.specs.Locked.{allowedAmong, lockedSeen}
 
 -- what is known of units that are allowed
 pub record Allowed (t : Tables) (a : Account) (s : Seen) (u units : ℕ) : Type 0 where
@@ -30,9 +30,9 @@ pub record Allowed (t : Tables) (a : Account) (s : Seen) (u units : ℕ) : Type 
   pub changed : (to : ℕ → ℕ) → lockedSeen s u (to (s .holding .locked .0)) ≡ locking a u (to (holding a u .locked .0))
 
 -- found is what the code found of the first test
-module _ {t : Tables} {a : Account} {e : Entry} {s : Seen} (sees : Sees t a e s) (u units : ℕ) {found : Bool} (is : found ≡ (ltb u (s .m) && (units ∈ rangeOf UnitsAtOnce))) where
+module _ {t : Tables} {a : Account} {e : Entry} {s : Seen} (sees : Sees t a e s) (u units : ℕ) {found : Bool} (is : found ≡ allowedAmong (s .m) u units) where
   pub tests : found ≡ unitsAllowed t u units
-  tests = is ∙ ap (λ (s : Seen). ltb u (s .m) && (units ∈ rangeOf UnitsAtOnce)) (shown sees)
+  tests = is ∙ ap (λ (s : Seen). allowedAmong (s .m) u units) (shown sees)
 
   module _ (passed : found ≡ true) (names : (of : ℕ) → underlyingNamed e of ≡ u) where
     there : u < t .m

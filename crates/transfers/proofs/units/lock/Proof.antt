@@ -1,14 +1,13 @@
 -- `lock` meets its contract: its two tests are the definition's, and what is locked and what comes fit together.
 use mathlib.Core.Path.{_≡_, refl, _∙_}
-use mathlib.Core.Bool.{Bool, true, _&&_}
+use mathlib.Core.Bool.{Bool, true}
 use mathlib.Core.List.{[], _∷_}
 use Prim.Native.Nat.{ℕ, _+_, _^_, _<_}
 use native.Mathlib.Omega.{arith}
 use borrow.Author.Needs.{needs}
 use borrow.Author.Tests.{not-true, not-false}
-use lib.Dec.{ltb}
 use Rattle.terms.specs.Ranges.{rangeOf, _∈_}
-use Rattle.terms.specs.declared.measure.Measure.the-variants.{LockedUnits, UnitsAtOnce}
+use Rattle.terms.specs.declared.measure.Measure.the-variants.{LockedUnits}
 use Rattle.terms.specs.declared.refusal.Refusal.the-variants.{CeilingPassed, OutOfRange}
 use Rattle.entries.specs.declared.entry.Entry.the-variants.{Lock}
 use Rattle.account.specs.Locks.{lockChange, lockVerdict, unitsAllowed}
@@ -18,6 +17,7 @@ use Rattle.account.specs.declared.account.Account.{Account}
 use Rattle.account.specs.declared.judged.Seen.{Seen}
 use Rattle.account.specs.declared.tables.Tables.{Tables}
 use Rattle.account.proofs.Decided.{Checked, changes, fails, goes-on, refuses}
+use Rattle.transfers.specs.Locked.{allowedAmong}
 use Rattle.transfers.proofs.Locked.{Allowed, known, tests}
 use Rattle.transfers.proofs.units.lock.Statement.{statement}
 use Rattle.transfers.proofs.units.lock.Tie as tie
@@ -28,7 +28,7 @@ unfolding lockVerdict
 asked t a u units = record { are = refl }
 
 -- what is known once the first test has passed
-module _ {t : Tables} {a : Account} {s : Seen} {u units : ℕ} (sees : Sees t a (Lock u units) s) {first : Bool} (is : first ≡ (ltb u (s .m) && (units ∈ rangeOf UnitsAtOnce))) (passed : first ≡ true) where
+module _ {t : Tables} {a : Account} {s : Seen} {u units : ℕ} (sees : Sees t a (Lock u units) s) {first : Bool} (is : first ≡ allowedAmong (s .m) u units) (passed : first ≡ true) where
   row : Allowed t a s u units
   row = known sees u units is passed (λ of. refl)
 

@@ -1,14 +1,12 @@
 -- `unlock` meets its contract: its two tests are the definition's, spare units being what is neither covered nor reserved, and no more is taken off than is spare.
-use mathlib.Core.Path.{_≡_, refl, sym, ap, _∙_}
-use mathlib.Core.Bool.{Bool, true, _&&_}
+use mathlib.Core.Path.{_≡_, refl, ap, _∙_}
+use mathlib.Core.Bool.{Bool, true}
 use mathlib.Core.List.{[], _∷_}
 use Prim.Native.Nat.{ℕ, _+_, _-_, _≤_}
 use native.Mathlib.Omega.{arith}
 use borrow.Author.Needs.{needs}
 use borrow.Author.Tests.{le-leb, lt-leb, not-true, not-false}
-use lib.Dec.{leb, ltb}
-use Rattle.terms.specs.Ranges.{rangeOf, _∈_}
-use Rattle.terms.specs.declared.measure.Measure.the-variants.{UnitsAtOnce}
+use lib.Dec.{leb}
 use Rattle.terms.specs.declared.refusal.Refusal.the-variants.{SpareTooFew, OutOfRange}
 use Rattle.entries.specs.declared.entry.Entry.the-variants.{Unlock}
 use Rattle.account.specs.Locks.{unitsAllowed, unlockChange, unlockVerdict}
@@ -19,6 +17,7 @@ use Rattle.account.specs.declared.judged.Seen.{Seen}
 use Rattle.account.specs.declared.running.Running.{Running}
 use Rattle.account.specs.declared.tables.Tables.{Tables}
 use Rattle.account.proofs.Decided.{Checked, changes, fails, goes-on, refuses}
+use Rattle.transfers.specs.Locked.{allowedAmong}
 use Rattle.transfers.proofs.Locked.{Allowed, known, tests}
 use Rattle.transfers.proofs.units.unlock.Statement.{statement}
 use Rattle.transfers.proofs.units.unlock.Tie as tie
@@ -28,7 +27,7 @@ unfolding unlockVerdict
 asked t a u units = record { are = refl }
 
 -- what is known once the first test has passed
-module _ {t : Tables} {a : Account} {s : Seen} {u units : ℕ} (sees : Sees t a (Unlock u units) s) {first : Bool} (is : first ≡ (ltb u (s .m) && (units ∈ rangeOf UnitsAtOnce))) (passed : first ≡ true) where
+module _ {t : Tables} {a : Account} {s : Seen} {u units : ℕ} (sees : Sees t a (Unlock u units) s) {first : Bool} (is : first ≡ allowedAmong (s .m) u units) (passed : first ≡ true) where
   row : Allowed t a s u units
   row = known sees u units is passed (λ of. refl)
 
