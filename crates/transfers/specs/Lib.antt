@@ -1,2 +1,2 @@
--- What a lock or an unlock changes, by what it sees; the rules are in `account`.
+-- What a lock or an unlock tests and changes, by what it sees; the rules are in `account`.
 pub mod Locked

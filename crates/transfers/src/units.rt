@@ -10,15 +10,12 @@ use terms::Measure;
 use terms::Refusal;
 use terms::Units;
 ghost use mathlib.Core.Path.{_≡_};
-ghost use mathlib.Core.Bool.{_&&_};
-ghost use lib.Dec.{ltb};
-ghost use Rattle.terms.specs.Ranges.{rangeOf, _∈_};
 ghost use Rattle.account.specs.Changes.{decided};
 ghost use Rattle.account.specs.Locks.{lockChange, lockVerdict, unlockChange, unlockVerdict};
 ghost use Rattle.account.specs.Rows.{holding};
 ghost use Rattle.account.specs.Seen.{SeenOf, Wherever};
-ghost use Rattle.transfers.specs.Locked.{lockedSeen};
 ghost use Rattle.account.specs.Totals.{spareUnits};
+ghost use Rattle.transfers.specs.Locked.{allowedAmong, lockedSeen};
 
 pub fn lock(seen: Seen, underlying: u16, units: u32) -> Decision
     requires { ⌜ SeenOf (Entry.Lock underlying units) seen ⌝ }
@@ -52,7 +49,7 @@ pub fn unlock(seen: Seen, underlying: u16, units: u32) -> Decision
 }
 
 fn allowed(m: usize, underlying: u16, units: u32) -> bool
-    ensures { λ r. ⌜ r ≡ (ltb underlying m && (units ∈ rangeOf Measure.UnitsAtOnce)) ⌝ }
+    ensures { λ r. ⌜ r ≡ allowedAmong m underlying units ⌝ }
 {
     ((underlying as usize) < m) & Measure::UnitsAtOnce.allows(units as u64)
 }

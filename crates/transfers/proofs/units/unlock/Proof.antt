@@ -1,103 +1,80 @@
 -- `unlock` meets its contract: its two tests are the definition's, spare units being what is neither covered nor reserved, and no more is taken off than is spare.
-use mathlib.Core.Path.{_≡_, refl, sym, ap, _∙_}
-use mathlib.Core.Bool.{Bool, true, false}
+use mathlib.Core.Path.{_≡_, refl, ap, _∙_}
+use mathlib.Core.Bool.{Bool, true}
 use mathlib.Core.List.{[], _∷_}
-use Prim.Native.Nat.{ℕ, _+_, _-_, _≤_, _<_}
+use Prim.Native.Nat.{ℕ, _+_, _-_, _≤_}
 use native.Mathlib.Omega.{arith}
 use borrow.Author.Needs.{needs}
 use borrow.Author.Tests.{le-leb, lt-leb, not-true, not-false}
 use lib.Dec.{leb}
 use Rattle.terms.specs.declared.refusal.Refusal.the-variants.{SpareTooFew, OutOfRange}
-use Rattle.account.specs.Changes.{decided}
+use Rattle.entries.specs.declared.entry.Entry.the-variants.{Unlock}
 use Rattle.account.specs.Locks.{unitsAllowed, unlockChange, unlockVerdict}
-use Rattle.account.specs.Rows.{holding}
-use Rattle.account.specs.Running.{running, runningIn}
-use Rattle.account.specs.Sound.{Sound}
-use Rattle.account.specs.Totals.{spareUnits}
+use Rattle.account.specs.Seen.{Sees}
+use Rattle.account.specs.Totals.{coveredUnits, reservedUnits, spareUnits}
 use Rattle.account.specs.declared.account.Account.{Account}
-use Rattle.account.specs.declared.judged.Change.{Change}
-use Rattle.account.specs.declared.judged.Decision.{Decision}
-use Rattle.account.specs.declared.judged.Decision.the-variants as Decision·of
+use Rattle.account.specs.declared.judged.Seen.{Seen}
+use Rattle.account.specs.declared.running.Running.{Running}
 use Rattle.account.specs.declared.tables.Tables.{Tables}
 use Rattle.account.proofs.Decided.{Checked, changes, fails, goes-on, refuses}
-use Rattle.transfers.proofs.Locked.{listed, inside-rows}
+use Rattle.transfers.specs.Locked.{allowedAmong}
+use Rattle.transfers.proofs.Locked.{Allowed, known, tests}
 use Rattle.transfers.proofs.units.unlock.Statement.{statement}
 use Rattle.transfers.proofs.units.unlock.Tie as tie
 
-module _ (t : Tables) (a : Account) (u units : ℕ) where
-  asked : Checked (unlockVerdict t (spareUnits t a u) u units) ((unitsAllowed t u units, OutOfRange) ∷ (leb units (spareUnits t a u .0), SpareTooFew) ∷ [])
-  unfolding unlockVerdict
-  asked = record { are = refl }
+asked : (t : Tables) (a : Account) (u units : ℕ) → Checked (unlockVerdict t (spareUnits t a u) u units) ((unitsAllowed t u units, OutOfRange) ∷ (leb units (spareUnits t a u .0), SpareTooFew) ∷ [])
+unfolding unlockVerdict
+asked t a u units = record { are = refl }
 
-  abbrev change : Change
-  change = unlockChange a u units
+-- what is known once the first test has passed
+module _ {t : Tables} {a : Account} {s : Seen} {u units : ℕ} (sees : Sees t a (Unlock u units) s) {first : Bool} (is : first ≡ allowedAmong (s .m) u units) (passed : first ≡ true) where
+  row : Allowed t a s u units
+  row = known sees u units is passed (λ of. refl)
 
-  abbrev decision : Decision
-  decision = decided (unlockVerdict t (spareUnits t a u) u units) change
+  taken-is : s .running .taken .0 ≡ coveredUnits t a u + reservedUnits t a u
+  taken-is = ap (λ (r : Running). r .taken .0) (row .running)
 
-  -- what is kept, once the first check has passed
-  module _ (sound : Sound t a) (first : Bool) (is : first ≡ unitsAllowed t u units) (passed : first ≡ true) where
-    there : u < t .m
-    there = listed t a u units sound (sym is ∙ passed)
+  within : s .running .taken .0 ≤ s .holding .locked .0
+  within = omega (arith, taken-is, row .locked, sees .sound .units u (row .listed))
 
-    kept : running a u ≡ runningIn t a u
-    kept = sound .running u (omega (arith, there, sound .tables .fewUnderlyings))
+  spare-is : s .holding .locked .0 - s .running .taken .0 ≡ spareUnits t a u .0
+  unfolding spareUnits
+  spare-is = omega (arith, taken-is, row .locked)
 
-    abbrev spare : ℕ
-    spare = holding a u .locked .0 - running a u .taken .0
+  left : Checked (unlockVerdict t (spareUnits t a u) u units) ((leb units (s .holding .locked .0 - s .running .taken .0), SpareTooFew) ∷ [])
+  left = rw spare-is (goes-on (asked t a u units) (tests sees u units is) passed)
 
-    is-spare : spare ≡ spareUnits t a u .0
-    unfolding spareUnits
-    is-spare = rw kept (omega arith)
+taken-within : tie.Need-sub-if2
+taken-within c =
+    let first = c .before .before .before .before in
+    within (first .before .before .pre .sees) (first .before .allowed .ensures) (not-false _ (first .if1 .left))
 
-    within : running a u .taken .0 ≤ holding a u .locked .0
-    within = rw kept (sound .units u there)
+returns : tie.Need-returns
+returns c t a sees =
+    let args = c .before .before .args in
+    refuses _ _ _ (fails (asked t a _ _) (tests sees (args .underlying) (args .units) (c .before .allowed .ensures)) (not-true _ (c .if1 .taken)))
 
-    refused : spare < units → Decision·of.Refused SpareTooFew ≡ decision
-    refused less = refuses _ change _ (fails (goes-on asked is passed) {found = false} (sym (ap (leb units) (sym is-spare) ∙ lt-leb units spare less)) refl)
-
-    accepted : units ≤ spare → (made : Change) → made ≡ change → Decision·of.Changes made ≡ decision
-    accepted reach = changes _ change (goes-on (goes-on asked is passed) {found = true} (sym (ap (leb units) (sym is-spare) ∙ le-leb units spare reach)) refl .are)
-
--- what the function knows behind its first check
-module _ (passed : tie.Else1) where
-  abbrev start : tie.Start
-  start = passed .before .before
-
-  taken-within : running (start .args .t2) (start .args .underlying) .taken .0 ≤ holding (start .args .t2) (start .args .underlying) .locked .0
-  taken-within = within (start .args .tables) (start .args .t2) (start .args .underlying) (start .args .units) (start .pre) _ (passed .before .allowed .ensures) (not-false _ (passed .if1 .left))
-
-  abbrev left : ℕ
-  left = holding (start .args .t2) (start .args .underlying) .locked .0 - running (start .args .t2) (start .args .underlying) .taken .0
-
-  too-few : left < start .args .units → Decision·of.Refused SpareTooFew ≡ decision (start .args .tables) (start .args .t2) (start .args .underlying) (start .args .units)
-  too-few = refused (start .args .tables) (start .args .t2) (start .args .underlying) (start .args .units) (start .pre) _ (passed .before .allowed .ensures) (not-false _ (passed .if1 .left))
-
-  enough : start .args .units ≤ left → (made : Change) → made ≡ unlockChange (start .args .t2) (start .args .underlying) (start .args .units)
-      → Decision·of.Changes made ≡ decision (start .args .tables) (start .args .t2) (start .args .underlying) (start .args .units)
-  enough = accepted (start .args .tables) (start .args .t2) (start .args .underlying) (start .args .units) (start .pre) _ (passed .before .allowed .ensures) (not-false _ (passed .if1 .left))
-
-  inside : start .args .underlying < 8
-  inside = inside-rows (start .args .tables) (start .args .t2) (start .args .underlying) (start .args .units) (start .pre) (sym (passed .before .allowed .ensures) ∙ not-false _ (passed .if1 .left))
+returns-2 : tie.Need-returns-2
+returns-2 c t a sees =
+    let first = c .before .before .before .before .before in
+    refuses _ _ _ (fails (left sees (first .before .allowed .ensures) (not-false _ (first .if1 .left))) refl (lt-leb _ _ (c .if2 .taken)))
 
 returns-3 : tie.Need-returns-3
 unfolding unlockChange
-returns-3 c = enough (c .before .before .before .before .before .before .before) (c .before .before .if2 .left) _ (c .locking .ensures)
+returns-3 c t a sees =
+    let first = c .before .before .before .before .before .before .before in
+    let is = first .before .allowed .ensures in
+    let passed = not-false _ (first .if1 .left) in
+    changes _ _ (goes-on (left sees is passed) refl (le-leb _ _ (c .before .before .if2 .left)) .are) _ (c .locking .ensures ∙ row sees is passed .changed (_- first .before .before .args .units))
 
 pub unlock-spec : {M : Type 1} → statement M
 unlock-spec =
     tie.close
     (tie.spec
     (λ c κs. search needs)
-    (λ c.
-    let args = c .before .before .args in
-    refuses _ _ _ (fails (asked (args .tables) (args .t2) (args .underlying) (args .units)) (c .before .allowed .ensures) (not-true _ (c .if1 .taken))))
+    returns
+    taken-within
+    returns-2
     (λ c. search needs)
-    (λ c. inside c)
-    (λ c. search needs)
-    (λ c. inside (c .before))
-    (λ c. taken-within (c .before .before .before .before))
-    (λ c. too-few (c .before .before .before .before .before) (c .if2 .taken))
-    (λ c. omega (arith, c .before .if2 .left))
-    (λ c κs. refl)
+    (λ c κs. search needs)
     returns-3)
