@@ -55,12 +55,12 @@ module _ (t : Tables) (a : Account) (f : Figures) where
       ∙ outcome-verdict (refusalOf t a entry f) (tablesAfter t entry f) (accountAfter t a entry f)
 
 -- in each arm the entry is known, and what is decided by what it sees
-module _ {s : Seen} (f : Figures) {entry is : Entry} (e : entry ≡ is) where
+module _ {s : Seen} {entry is : Entry} (e : entry ≡ is) where
   pub as-known : SeenOf entry s → SeenOf is s
   as-known = subst (λ (any : Entry). SeenOf any s) e
 
-  pub for-entry : {d : Decision} → Wherever is s (λ t a. d ≡ decisionOn t a is f) → Wherever entry s (λ t a. d ≡ decisionOn t a entry f)
-  for-entry {d} so = subst (λ (any : Entry). Wherever any s (λ t a. d ≡ decisionOn t a any f)) (sym e) so
+  pub for-entry : {d : Decision} (f : Figures) → Wherever is s (λ t a. d ≡ decisionOn t a is f) → Wherever entry s (λ t a. d ≡ decisionOn t a entry f)
+  for-entry {d} f so = subst (λ (any : Entry). Wherever any s (λ t a. d ≡ decisionOn t a any f)) (sym e) so
 
 module _ (t : Tables) (f : Figures) where
   -- an accepted day end has as many rows as the tables
