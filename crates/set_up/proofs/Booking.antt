@@ -13,19 +13,22 @@ use Rattle.entries.specs.Entries.{kindOf}
 use Rattle.entries.specs.Table.{codeOf}
 use Rattle.entries.specs.declared.entry.Entry as Entry·of
 use Rattle.entries.specs.declared.entry.Figures.{Figures}
+use Rattle.account.specs.Changes.{verdictIn}
 use Rattle.account.specs.Sound.{contractAllowed, underlyingAllowed}
 use Rattle.account.specs.Steps.{accountAfter, outcome, refusalOf, step, tablesAfter}
 use Rattle.account.specs.Verdicts.{_else_then_}
+use Rattle.account.specs.declared.judged.Decision.{Decision}
+use Rattle.account.specs.declared.judged.Decision.the-variants as Decision·of
 use Rattle.account.specs.declared.judged.Verdict as Verdict·of
 use Rattle.account.specs.declared.judged.Verdict.the-variants.{Accepted}
 use Rattle.account.specs.declared.judged.Verdict.the-variants as Verdict
-use Rattle.steps.specs.Booked.{decisionOn}
+use Rattle.steps.specs.Booked.{Rests, decisionOn}
 use Rattle.steps.proofs.Booking.{rests, stepped, verdict-decided}
-use Rattle.set_up.specs.Rulings.{RestsOn, contractRuling, openWith, openingRuling, ruledAs, ruledBy, rulingOn, underlyingRuling, verdictOn}
+use Rattle.set_up.specs.Rulings.{RestsOn, contractRuling, ofDecision, openWith, openingRuling, ruledAs, ruledBy, rulingOn, underlyingRuling, verdictOn, withDecision}
 use Rattle.set_up.specs.Sound.{SoundBook}
 use Rattle.set_up.specs.Stages.{bookAfter, bySetUp, enteredAs, entered, inPlace, recordVerdict, withEntry}
 use Rattle.set_up.specs.declared.ruling.Ruling.{Ruling}
-use Rattle.set_up.specs.declared.ruling.Ruling.the-variants.{Underlying, Contract, Opening, Entry}
+use Rattle.set_up.specs.declared.ruling.Ruling.the-variants.{Underlying, Contract, Opening}
 use Rattle.set_up.specs.declared.stages.Book.{Book}
 use Rattle.set_up.specs.declared.stages.Stage.the-variants.{Entries}
 use Rattle.set_up.proofs.Entering.{after-entry, each-entry, entry-verdict, no-set-up, open-stage, verdict}
@@ -37,10 +40,11 @@ as-found why test found ruling e is = ap (λ (passes : Bool). ruledAs (passes el
 module _ (b : Book) (f : Figures) where
   -- what a record in its place comes to
   abbrev pub by-kind : Entry·of.Entry → Ruling
-  by-kind entry = bySetUp (underlyingRuling (b .tables)) (contractRuling (b .tables)) openingRuling (Entry (decisionOn (b .tables) (b .account) entry f)) entry
+  by-kind entry = bySetUp (underlyingRuling (b .tables .m)) (contractRuling (b .tables .m) (b .tables .n)) openingRuling (ofDecision (decisionOn (b .tables) (b .account) entry f)) entry
 
-  pub entry-ruling : (entry : Entry·of.Entry) → codeOf (kindOf entry) < 16 → Entry (decisionOn (b .tables) (b .account) entry f) ≡ by-kind entry
-  entry-ruling entry few = sym (no-set-up (underlyingRuling (b .tables)) (contractRuling (b .tables)) openingRuling (Entry (decisionOn (b .tables) (b .account) entry f)) entry few)
+  pub entry-ruling : (entry : Entry·of.Entry) → codeOf (kindOf entry) < 16 → ofDecision (decisionOn (b .tables) (b .account) entry f) ≡ by-kind entry
+  entry-ruling entry few =
+      sym (no-set-up (underlyingRuling (b .tables .m)) (contractRuling (b .tables .m) (b .tables .n)) openingRuling (ofDecision (decisionOn (b .tables) (b .account) entry f)) entry few)
 
   -- a ruling tells the verdict, is booked as the book after it, and rests on what it needs
   record Leads (ruling : Ruling) (v : Verdict·of.Verdict) (after : Book) : Type 0 where
@@ -57,13 +61,30 @@ module _ (b : Book) (f : Figures) where
     by-verdict Verdict.Accepted = refl
     by-verdict (Verdict.Refused why) = λ i. record { stage = sym stands i; tables = b .tables; account = b .account }
 
-    entry-leads : Leads (Entry (decisionOn (b .tables) (b .account) entry f)) (refusalOf (b .tables) (b .account) entry f) (withEntry b entry f)
+    -- what is decided is told, booked and rested on as its ruling is
+    of-told : (d : Decision) → verdictOn (ofDecision d) ≡ verdictIn d
+    of-told (Decision·of.Refused why) = refl
+    of-told (Decision·of.Changes change) = refl
+    of-told Decision·of.DayEnds = refl
+
+    of-booked : (d : Decision) → ruledBy b f (ofDecision d) ≡ withDecision b f d
+    of-booked (Decision·of.Refused why) = λ i. record { stage = stands i; tables = b .tables; account = b .account }
+    of-booked (Decision·of.Changes change) = refl
+    of-booked Decision·of.DayEnds = refl
+
+    of-rests : (d : Decision) → Rests (b .tables) (b .account) f d → RestsOn b f (ofDecision d)
+    of-rests (Decision·of.Refused why) it = tt
+    of-rests (Decision·of.Changes change) it = (stands, it)
+    of-rests Decision·of.DayEnds it = (stands, it)
+
+    entry-leads : Leads (ofDecision (decisionOn (b .tables) (b .account) entry f)) (refusalOf (b .tables) (b .account) entry f) (withEntry b entry f)
     unfolding step
     entry-leads =
+        let d = decisionOn (b .tables) (b .account) entry f in
         record {
-          told = verdict-decided (b .tables) (b .account) f entry;
-          booked = ap openWith (stepped (b .tables) (b .account) f entry) ∙ by-verdict (refusalOf (b .tables) (b .account) entry f);
-          rested = λ sound. (stands, rests (b .tables) f (b .account) (sound .account stands) entry);
+          told = of-told d ∙ verdict-decided (b .tables) (b .account) f entry;
+          booked = of-booked d ∙ ap openWith (stepped (b .tables) (b .account) f entry) ∙ by-verdict (refusalOf (b .tables) (b .account) entry f);
+          rested = λ sound. of-rests d (rests (b .tables) f (b .account) (sound .account stands) entry);
         }
 
   kind-leads : (entry : Entry·of.Entry) → inPlace (b .stage) (codeOf (kindOf entry)) ≡ true → Leads (by-kind entry) (verdict b f entry) (bookAfter b entry f)

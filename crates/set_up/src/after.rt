@@ -27,7 +27,8 @@ pub fn ruled(book: Book, figures: Figures, ruling: Ruling) -> Book
             let tables = book.tables;
             Book::opened(tables, cash)
         }
-        Ruling::Entry(decision) => with_decision(book, figures, decision),
+        Ruling::Changes(change) => with_decision(book, figures, Decision::Changes(change)),
+        Ruling::DayEnds => with_decision(book, figures, Decision::DayEnds),
     }
 }
 

@@ -1,8 +1,8 @@
 // What a record of a book comes to, at the book's stage. Nothing is written yet.
-use crate::stages::Book;
 use crate::stages::Stage;
+use account::Change;
 use account::Decision;
-use account::Tables;
+use account::Seen;
 use account::Verdict;
 use entries::Contract;
 use entries::Entry;
@@ -14,17 +14,18 @@ use steps::decide;
 use terms::Measure;
 use terms::Refusal;
 ghost use mathlib.Core.Path.{_≡_};
-ghost use Rattle.set_up.specs.Rulings.{contractRuling, openingRuling, rulingOn, underlyingRuling, verdictOn};
-ghost use Rattle.set_up.specs.Sound.{SoundBook};
+ghost use Rattle.set_up.specs.Rulings.{contractRuling, ofDecision, openingRuling, rulingOn, underlyingRuling, verdictOn};
+ghost use Rattle.set_up.specs.Sound.{BookSeen, WhereverBook};
 ghost use Rattle.set_up.specs.Stages.{inPlace};
 
-// What a record comes to: why it is refused, or what it adds to the book; of an entry, what is decided about it.
+// What a record comes to: why it is refused, what it adds to the book, or what an entry changes.
 pub enum Ruling {
     Refused(Refusal),
     Underlying(Underlying),
     Contract(Contract),
     Opening(u64),
-    Entry(Decision),
+    Changes(Change),
+    DayEnds,
 }
 
 impl Ruling {
@@ -36,29 +37,36 @@ impl Ruling {
             Ruling::Underlying(_) => Verdict::Accepted,
             Ruling::Contract(_) => Verdict::Accepted,
             Ruling::Opening(_) => Verdict::Accepted,
-            Ruling::Entry(decision) => decision.verdict(),
+            Ruling::Changes(_) => Verdict::Accepted,
+            Ruling::DayEnds => Verdict::Accepted,
+        }
+    }
+
+    // What is decided about an entry.
+    fn of(decision: Decision) -> Ruling
+        ensures { λ r. ⌜ r ≡ ofDecision decision ⌝ }
+    {
+        match decision {
+            Decision::Refused(why) => Ruling::Refused(why),
+            Decision::Changes(change) => Ruling::Changes(change),
+            Decision::DayEnds => Ruling::DayEnds,
         }
     }
 }
 
-// A record at the book's stage.
-pub fn rule(book: Book, entry: Entry, figures: Figures) -> Ruling
-    requires { ⌜ SoundBook book ⌝ }
-    ensures { λ r. ⌜ r ≡ rulingOn book entry figures ⌝ }
+// A record at the book's stage, by what it sees of the book.
+pub fn rule(stage: Stage, seen: Seen, entry: Entry, figures: Figures) -> Ruling
+    requires { ⌜ BookSeen stage entry seen ⌝ }
+    ensures { λ r. ⌜ WhereverBook stage entry seen (λ b. r ≡ rulingOn b entry figures) ⌝ }
 {
-    let stage = book.stage;
     if !in_place(stage, entry.kind().code()) {
         return Ruling::Refused(Refusal::OutOfPlace);
     }
-    let tables = book.tables;
     match entry {
-        Entry::Underlying(row) => underlying(tables, row),
-        Entry::Contract(row) => contract(tables, row),
+        Entry::Underlying(row) => underlying(seen.m, row),
+        Entry::Contract(row) => contract(seen.m, seen.n, row),
         Entry::Opening(cash) => opening(cash),
-        _ => {
-            let account = book.account;
-            Ruling::Entry(decide(tables, account, entry, figures))
-        }
+        _ => Ruling::of(decide(seen, entry, figures)),
     }
 }
 
@@ -73,20 +81,20 @@ fn in_place(stage: Stage, kind: u16) -> bool
 }
 
 // The row takes the next number, as long as there is one.
-fn underlying(tables: Tables, row: Underlying) -> Ruling
-    ensures { λ r. ⌜ r ≡ underlyingRuling tables row ⌝ }
+fn underlying(m: usize, row: Underlying) -> Ruling
+    ensures { λ r. ⌜ r ≡ underlyingRuling m row ⌝ }
 {
-    if underlying_allowed(row) & (tables.m < terms::UNDERLYINGS) {
+    if underlying_allowed(row) & (m < terms::UNDERLYINGS) {
         Ruling::Underlying(row)
     } else {
         Ruling::Refused(Refusal::OutOfRange)
     }
 }
 
-fn contract(tables: Tables, row: Contract) -> Ruling
-    ensures { λ r. ⌜ r ≡ contractRuling tables row ⌝ }
+fn contract(m: usize, n: usize, row: Contract) -> Ruling
+    ensures { λ r. ⌜ r ≡ contractRuling m n row ⌝ }
 {
-    if contract_allowed(tables.m, row) & (tables.n < terms::CONTRACTS) {
+    if contract_allowed(m, row) & (n < terms::CONTRACTS) {
         Ruling::Contract(row)
     } else {
         Ruling::Refused(Refusal::OutOfRange)

@@ -14,12 +14,6 @@ module _ (start : tie.Start) (is : Ruling) (e : start .args .ruling ≡ is) wher
   so : (r : Book) → r ≡ ruledBy (start .args .book) (start .args .figures) is → r ≡ ruledBy (start .args .book) (start .args .figures) (start .args .ruling)
   so r ruled = ruled ∙ sym (ap (ruledBy (start .args .book) (start .args .figures)) e)
 
-with-decision-requires : tie.Need-with-decision-requires
-with-decision-requires c κs =
-    let start = c .before .before .before in
-    let rests = rests-on start _ (c .before .ruling4 .given .1) in
-    (start .pre .0 .account (rests .0), rests .1)
-
 pub ruled-spec : {M : Type 1} → statement M
 ruled-spec =
     tie.close
@@ -32,9 +26,12 @@ ruled-spec =
     (λ c. search needs)
     (λ c κs. search needs)
     (λ c. search needs)
-    with-decision-requires
+    (λ c κs. let rests = rests-on (c .before .before .before) _ (c .before .ruling4 .given .1) in (c .before .before .before .pre .0 .account (rests .0), rests .1))
+    (λ c. search needs)
+    (λ c κs. let rests = rests-on (c .before .before) _ (c .enum-told2 .given .1) in (c .before .before .pre .0 .account (rests .0), rests .1))
     (λ c. so (c .before .before) _ (c .enum-told .given .1) _ refl)
     (λ c. so (c .before .before .before .before) _ (c .before .before .ruling .given .1) _ (c .with-underlying .ensures))
     (λ c. so (c .before .before .before .before) _ (c .before .before .ruling2 .given .1) _ (c .with-contract .ensures))
     (λ c. so (c .before .before .before .before .before) _ (c .before .before .before .ruling3 .given .1) _ (c .opened .ensures))
-    (λ c. so (c .before .before .before .before) _ (c .before .before .ruling4 .given .1) _ (c .with-decision .ensures)))
+    (λ c. so (c .before .before .before .before) _ (c .before .before .ruling4 .given .1) _ (c .with-decision .ensures))
+    (λ c. so (c .before .before .before) _ (c .before .enum-told2 .given .1) _ (c .with-decision2 .ensures)))

@@ -8,13 +8,13 @@ use Rattle.set_up.proofs.Booking.{as-found}
 use Rattle.set_up.proofs.ruling.contract.Statement.{statement}
 use Rattle.set_up.proofs.ruling.contract.Tie as tie
 
-judged : (c : tie.After-contract-allowed) → let start = c .before .args in (c .contract-allowed .result && ltb (start .tables .n) 64) ≡ (contractAllowed (start .tables .m) (start .row) && ltb (start .tables .n) 64)
-judged c = ap (λ (allowed : Bool). allowed && ltb (c .before .args .tables .n) 64) (c .contract-allowed .ensures)
+judged : (c : tie.After-contract-allowed) → let start = c .before .args in (c .contract-allowed .result && ltb (start .n) 64) ≡ (contractAllowed (start .m) (start .row) && ltb (start .n) 64)
+judged c = ap (λ (allowed : Bool). allowed && ltb (c .before .args .n) 64) (c .contract-allowed .ensures)
 
 pub contract-spec : {M : Type 1} → statement M
 contract-spec =
     tie.close
     (tie.spec
     (λ c κs. tt)
-    (λ c. as-found OutOfRange _ _ _ (c .if1 .taken) (judged (c .before .before)))
-    (λ c. as-found OutOfRange _ _ _ (c .if1 .left) (judged (c .before .before))))
+    (λ c. as-found OutOfRange _ _ _ (c .if1 .taken) (judged (c .before)))
+    (λ c. as-found OutOfRange _ _ _ (c .if1 .left) (judged (c .before))))

@@ -8,13 +8,13 @@ use Rattle.set_up.proofs.Booking.{as-found}
 use Rattle.set_up.proofs.ruling.underlying.Statement.{statement}
 use Rattle.set_up.proofs.ruling.underlying.Tie as tie
 
-judged : (c : tie.After-underlying-allowed) → let start = c .before .args in (c .underlying-allowed .result && ltb (start .tables .m) 8) ≡ (underlyingAllowed (start .row) && ltb (start .tables .m) 8)
-judged c = ap (λ (allowed : Bool). allowed && ltb (c .before .args .tables .m) 8) (c .underlying-allowed .ensures)
+judged : (c : tie.After-underlying-allowed) → let start = c .before .args in (c .underlying-allowed .result && ltb (start .m) 8) ≡ (underlyingAllowed (start .row) && ltb (start .m) 8)
+judged c = ap (λ (allowed : Bool). allowed && ltb (c .before .args .m) 8) (c .underlying-allowed .ensures)
 
 pub underlying-spec : {M : Type 1} → statement M
 underlying-spec =
     tie.close
     (tie.spec
     (λ c κs. tt)
-    (λ c. as-found OutOfRange _ _ _ (c .if1 .taken) (judged (c .before .before)))
-    (λ c. as-found OutOfRange _ _ _ (c .if1 .left) (judged (c .before .before))))
+    (λ c. as-found OutOfRange _ _ _ (c .if1 .taken) (judged (c .before)))
+    (λ c. as-found OutOfRange _ _ _ (c .if1 .left) (judged (c .before))))

@@ -1,5 +1,5 @@
--- `verdict` meets its contract: a refusal is told as it was ruled, an entry as it was decided, and all else was accepted.
-use mathlib.Core.Path.{sym, ap, _∙_}
+-- `verdict` meets its contract: a refusal is told as it was ruled, and all else was accepted.
+use mathlib.Core.Path.{sym, ap}
 use borrow.Author.Needs.{needs}
 use Rattle.set_up.specs.Rulings.{verdictOn}
 use Rattle.set_up.proofs.ruling.Ruling.verdict.Statement.{statement}
@@ -14,9 +14,10 @@ verdict-spec =
     (λ c. search needs)
     (λ c. search needs)
     (λ c. search needs)
-    (λ c κs. search needs)
+    (λ c. search needs)
     (λ c. sym (ap verdictOn (c .before .self .given .1)))
     (λ c. search needs)
     (λ c. search needs)
     (λ c. search needs)
-    (λ c. c .verdict .ensures ∙ sym (ap verdictOn (c .before .before .self2 .given .1))))
+    (λ c. search needs)
+    (λ c. search needs))
