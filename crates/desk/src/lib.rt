@@ -1,9 +1,12 @@
 // The desk: a list and a book, run from their bytes, the answers written into places that the caller lends.
 mod available;
 
+use account::Seen;
 use account::Tables;
 use account::Verdict;
 use available::available_in;
+use gathering::place_of;
+use gathering::row;
 use reader::read_next;
 use reading::Answer;
 use rows::list_verdict;
@@ -68,7 +71,9 @@ pub fn run_on(book: Book, bytes: &[u8], place: usize, numbers: &mut [u8], sums: 
     ensures numbers { λ r. ⌜ now (numbers .exit) ≡ numbersLeft (runFrom (placesIn (now (numbers .entry)) (now (sums .entry))) (now (bytes .entry)) place book) (now (numbers .entry)) ⌝ }
     ensures sums { λ r. ⌜ now (sums .exit) ≡ sumsLeft (runFrom (placesIn (now (numbers .entry)) (now (sums .entry))) (now (bytes .entry)) place book) (now (sums .entry)) ⌝ }
 {
-    let mut book = book;
+    let mut stage = book.stage;
+    let mut tables = book.tables;
+    let mut account = book.account;
     let mut place = place;
     let mut k = 0;
     while (k < numbers.len()) & (k < sums.len()) & (place < bytes.len()) {
@@ -77,13 +82,67 @@ pub fn run_on(book: Book, bytes: &[u8], place: usize, numbers: &mut [u8], sums: 
         let answer = reading.answer;
         let figures = reading.figures;
         let ruling = match answer {
-            Answer::Found { entry, length: _ } => rule(book, entry, figures),
+            Answer::Found { entry, length: _ } => {
+                let orders = account.orders;
+                let found = place_of(orders, entry.order_named());
+                let i = row(terms::PLACES, found);
+                let order = account.orders[i];
+                let c = row(
+                    terms::CONTRACTS,
+                    entry.contract_named(order.contract) as usize,
+                );
+                let contract = tables.contracts[c];
+                let u = row(
+                    terms::UNDERLYINGS,
+                    entry.underlying_named(contract.underlying) as usize,
+                );
+                let position = account.positions[c];
+                let closing = account.closing[c];
+                let limits = tables.underlyings[u];
+                let holding = account.holdings[u];
+                let running = account.running[u];
+                let sheet = account.sheet;
+                let seen = Seen {
+                    n: tables.n,
+                    m: tables.m,
+                    sheet,
+                    waiting: account.waiting,
+                    last: account.last,
+                    free: account.free,
+                    place: found,
+                    order,
+                    contract,
+                    position,
+                    closing,
+                    limits,
+                    holding,
+                    running,
+                };
+                rule(stage, seen, entry, figures)
+            }
             Answer::Refused { why, place: _ } => Ruling::Refused(why),
         };
-        book = ruled(book, figures, ruling);
+        match ruling {
+            Ruling::Refused(_) => {}
+            Ruling::Changes(change) => {
+                account = account.apply(change);
+            }
+            _ => {
+                let after = ruled(
+                    Book {
+                        stage,
+                        tables,
+                        account,
+                    },
+                    figures,
+                    ruling,
+                );
+                stage = after.stage;
+                tables = after.tables;
+                account = after.account;
+            }
+        }
         numbers[k] = ruling.verdict().number();
-        let stage = book.stage;
-        let account = book.account;
         let sheet = account.sheet;
         sums[k] = available_in(stage, sheet);
         k += 1;
@@ -94,7 +153,11 @@ pub fn run_on(book: Book, bytes: &[u8], place: usize, numbers: &mut [u8], sums: 
                 answered: k,
                 place,
                 stopped: true,
-                book,
+                book: Book {
+                    stage,
+                    tables,
+                    account,
+                },
             };
         }
         place = read.next;
@@ -104,6 +167,10 @@ pub fn run_on(book: Book, bytes: &[u8], place: usize, numbers: &mut [u8], sums: 
         answered: k,
         place,
         stopped: false,
-        book,
+        book: Book {
+            stage,
+            tables,
+            account,
+        },
     }
 }
