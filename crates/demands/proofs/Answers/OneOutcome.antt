@@ -10,7 +10,14 @@ use Rattle.writing.specs.Writing.{recordOf, bufferAfter}
 use Rattle.writing.specs.declared.Written.{Written}
 use Rattle.writing.proofs.write.Reads as write
 use Rattle.postings.proofs.posted.Reads as posted
+use Rattle.entries.specs.declared.entry.Entry.{Entry}
+use Rattle.account.specs.Seen.{SeenOf, Wherever}
+use Rattle.account.specs.declared.account.Account.{Account}
+use Rattle.account.specs.declared.judged.Seen.{Seen}
+use Rattle.account.specs.declared.tables.Tables.{Tables}
 use Rattle.gathering.proofs.gather.Reads as gather
+use Rattle.gathering.proofs.place_of.Reads as place-of
+use Rattle.gathering.proofs.see.Reads as see
 use Rattle.transfers.proofs.deposit.Reads as deposit
 use Rattle.transfers.proofs.drop.Reads as drop
 use Rattle.transfers.proofs.pay.Reads as pay
@@ -70,8 +77,18 @@ post-one κs a r r' s s' p q = p ∙ sym q
 pub posted-one : (κs : _) (a : _) (r r' : _) (s s' : _) → posted.Post κs a r s → posted.Post κs a r' s' → r ≡ r'
 posted-one κs a r r' s s' p q = p ∙ sym q
 
-pub gather-one : (κs : _) (a : _) (r r' : _) (s s' : _) → gather.Post κs a r s → gather.Post κs a r' s' → r ≡ r'
-gather-one κs a r r' s s' p q = p ∙ sym q
+pub place-of-one : (κs : _) (a : _) (r r' : _) (s s' : _) → place-of.Post κs a r s → place-of.Post κs a r' s' → r ≡ r'
+place-of-one κs a r r' s s' p q = p ∙ sym q
+
+pub see-one : (κs : _) (a : _) (r r' : _) (s s' : _) → see.Post κs a r s → see.Post κs a r' s' → r ≡ r'
+see-one κs a r r' s s' p q = p ∙ sym q
+
+-- what is decided by what an entry sees is decided in one way, since it sees so much of some tables and account
+seen-one : {A : Type 0} {e : Entry} {s : Seen} {r r' : A} {of : Tables → Account → A} → SeenOf e s → Wherever e s (λ t a. r ≡ of t a) → Wherever e s (λ t a. r' ≡ of t a) → r ≡ r'
+seen-one some p q = p (some .tables) (some .account) (some .sees) ∙ sym (q (some .tables) (some .account) (some .sees))
+
+pub gather-one : (κs : _) (a : _) (r r' : _) (s s' : _) → gather.Pre κs a → gather.Post κs a r s → gather.Post κs a r' s' → r ≡ r'
+gather-one κs a r r' s s' of p q = seen-one of p q
 
 pub deposit-one : (κs : _) (a : _) (r r' : _) (s s' : _) → deposit.Post κs a r s → deposit.Post κs a r' s' → r ≡ r'
 deposit-one κs a r r' s s' p q = p ∙ sym q
@@ -85,32 +102,32 @@ pay-one κs a r r' s s' p q = p ∙ sym q
 pub drop-one : (κs : _) (a : _) (r r' : _) (s s' : _) → drop.Post κs a r s → drop.Post κs a r' s' → r ≡ r'
 drop-one κs a r r' s s' p q = p ∙ sym q
 
-pub lock-one : (κs : _) (a : _) (r r' : _) (s s' : _) → lock.Post κs a r s → lock.Post κs a r' s' → r ≡ r'
-lock-one κs a r r' s s' p q = p ∙ sym q
+pub lock-one : (κs : _) (a : _) (r r' : _) (s s' : _) → lock.Pre κs a → lock.Post κs a r s → lock.Post κs a r' s' → r ≡ r'
+lock-one κs a r r' s s' of p q = seen-one of p q
 
-pub unlock-one : (κs : _) (a : _) (r r' : _) (s s' : _) → unlock.Post κs a r s → unlock.Post κs a r' s' → r ≡ r'
-unlock-one κs a r r' s s' p q = p ∙ sym q
+pub unlock-one : (κs : _) (a : _) (r r' : _) (s s' : _) → unlock.Pre κs a → unlock.Post κs a r s → unlock.Post κs a r' s' → r ≡ r'
+unlock-one κs a r r' s s' of p q = seen-one of p q
 
-pub order-one : (κs : _) (a : _) (r r' : _) (s s' : _) → order.Post κs a r s → order.Post κs a r' s' → r ≡ r'
-order-one κs a r r' s s' p q = p ∙ sym q
+pub order-one : (κs : _) (a : _) (r r' : _) (s s' : _) → order.Pre κs a → order.Post κs a r s → order.Post κs a r' s' → r ≡ r'
+order-one κs a r r' s s' of p q = seen-one of p q
 
-pub find-one : (κs : _) (a : _) (r r' : _) (s s' : _) → find.Post κs a r s → find.Post κs a r' s' → r ≡ r'
-find-one κs a r r' s s' p q = p ∙ sym q
+pub find-one : (κs : _) (a : _) (r r' : _) (s s' : _) → find.Pre κs a → find.Post κs a r s → find.Post κs a r' s' → r ≡ r'
+find-one κs a r r' s s' sees p q = seen-one (sees .of) (p (sees .number)) (q (sees .number))
 
-pub fill-one : (κs : _) (a : _) (r r' : _) (s s' : _) → fill.Post κs a r s → fill.Post κs a r' s' → r ≡ r'
-fill-one κs a r r' s s' p q = p ∙ sym q
+pub fill-one : (κs : _) (a : _) (r r' : _) (s s' : _) → fill.Pre κs a → fill.Post κs a r s → fill.Post κs a r' s' → r ≡ r'
+fill-one κs a r r' s s' of p q = seen-one of p q
 
-pub cancel-one : (κs : _) (a : _) (r r' : _) (s s' : _) → cancel.Post κs a r s → cancel.Post κs a r' s' → r ≡ r'
-cancel-one κs a r r' s s' p q = p ∙ sym q
+pub cancel-one : (κs : _) (a : _) (r r' : _) (s s' : _) → cancel.Pre κs a → cancel.Post κs a r s → cancel.Post κs a r' s' → r ≡ r'
+cancel-one κs a r r' s s' sees p q = seen-one (sees .of) (p (sees .number)) (q (sees .number))
 
-pub day-end-decide-one : (κs : _) (a : _) (r r' : _) (s s' : _) → day-end-decide.Post κs a r s → day-end-decide.Post κs a r' s' → r ≡ r'
-day-end-decide-one κs a r r' s s' p q = p ∙ sym q
+pub day-end-decide-one : (κs : _) (a : _) (r r' : _) (s s' : _) → day-end-decide.Pre κs a → day-end-decide.Post κs a r s → day-end-decide.Post κs a r' s' → r ≡ r'
+day-end-decide-one κs a r r' s s' of p q = seen-one of p q
 
 pub ended-one : (κs : _) (a : _) (r r' : _) (s s' : _) → ended.Post κs a r s → ended.Post κs a r' s' → r ≡ r'
 ended-one κs a r r' s s' p q = p ∙ sym q
 
-pub decide-one : (κs : _) (a : _) (r r' : _) (s s' : _) → decide.Post κs a r s → decide.Post κs a r' s' → r ≡ r'
-decide-one κs a r r' s s' p q = p ∙ sym q
+pub decide-one : (κs : _) (a : _) (r r' : _) (s s' : _) → decide.Pre κs a → decide.Post κs a r s → decide.Post κs a r' s' → r ≡ r'
+decide-one κs a r r' s s' of p q = seen-one of p q
 
 pub booked-one : (κs : _) (a : _) (r r' : _) (s s' : _) → booked.Post κs a r s → booked.Post κs a r' s' → r ≡ r'
 booked-one κs a r r' s s' p q = p ∙ sym q
@@ -118,8 +135,8 @@ booked-one κs a r r' s s' p q = p ∙ sym q
 pub step-one : (κs : _) (a : _) (r r' : _) (s s' : _) → step.Post κs a r s → step.Post κs a r' s' → r ≡ r'
 step-one κs a r r' s s' p q = p ∙ sym q
 
-pub rule-one : (κs : _) (a : _) (r r' : _) (s s' : _) → rule.Post κs a r s → rule.Post κs a r' s' → r ≡ r'
-rule-one κs a r r' s s' p q = p ∙ sym q
+pub rule-one : (κs : _) (a : _) (r r' : _) (s s' : _) → rule.Pre κs a → rule.Post κs a r s → rule.Post κs a r' s' → r ≡ r'
+rule-one κs a r r' s s' of p q = p (of .book) (of .sees) ∙ sym (q (of .book) (of .sees))
 
 pub ruled-one : (κs : _) (a : _) (r r' : _) (s s' : _) → ruled.Post κs a r s → ruled.Post κs a r' s' → r ≡ r'
 ruled-one κs a r r' s s' p q = p ∙ sym q
