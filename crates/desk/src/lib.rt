@@ -12,8 +12,8 @@ use reading::Answer;
 use rows::list_verdict;
 use set_up::Book;
 use set_up::Ruling;
+use set_up::renewed;
 use set_up::rule;
-use set_up::ruled;
 ghost use mathlib.Core.Path.{_≡_};
 ghost use Rattle.set_up.specs.Sound.{SoundBook};
 ghost use Rattle.rows.specs.Given.{listVerdict};
@@ -127,16 +127,13 @@ pub fn run_on(book: Book, bytes: &[u8], place: usize, numbers: &mut [u8], sums: 
             Ruling::Changes(change) => {
                 account = account.apply(change);
             }
-            _ => {
-                let after = ruled(
-                    Book {
-                        stage,
-                        tables,
-                        account,
-                    },
-                    figures,
-                    ruling,
-                );
+            Ruling::Renews(renewal) => {
+                let before = Book {
+                    stage,
+                    tables,
+                    account,
+                };
+                let after = renewed(before, figures, renewal);
                 stage = after.stage;
                 tables = after.tables;
                 account = after.account;

@@ -22,13 +22,14 @@ use Rattle.account.specs.declared.judged.Decision.the-variants as Decision·of
 use Rattle.account.specs.declared.judged.Verdict as Verdict·of
 use Rattle.account.specs.declared.judged.Verdict.the-variants.{Accepted}
 use Rattle.account.specs.declared.judged.Verdict.the-variants as Verdict
-use Rattle.steps.specs.Booked.{Rests, decisionOn}
+use Rattle.steps.specs.Booked.{Rests, bookedBy, decisionOn}
 use Rattle.steps.proofs.Booking.{rests, stepped, verdict-decided}
-use Rattle.set_up.specs.Rulings.{RestsOn, contractRuling, ofDecision, openWith, openingRuling, ruledAs, ruledBy, rulingOn, underlyingRuling, verdictOn, withDecision}
+use Rattle.set_up.specs.Rulings.{RestsOn, contractRuling, ofDecision, openWith, openingRuling, ruledAs, ruledBy, rulingOn, underlyingRuling, verdictOn}
 use Rattle.set_up.specs.Sound.{SoundBook}
 use Rattle.set_up.specs.Stages.{bookAfter, bySetUp, enteredAs, entered, inPlace, recordVerdict, withEntry}
+use Rattle.set_up.specs.declared.ruling.Renewal.the-variants.{Underlying, Contract, Opening}
 use Rattle.set_up.specs.declared.ruling.Ruling.{Ruling}
-use Rattle.set_up.specs.declared.ruling.Ruling.the-variants.{Underlying, Contract, Opening}
+use Rattle.set_up.specs.declared.ruling.Ruling.the-variants.{Renews}
 use Rattle.set_up.specs.declared.stages.Book.{Book}
 use Rattle.set_up.specs.declared.stages.Stage.the-variants.{Entries}
 use Rattle.set_up.proofs.Entering.{after-entry, each-entry, entry-verdict, no-set-up, open-stage, verdict}
@@ -67,7 +68,7 @@ module _ (b : Book) (f : Figures) where
     of-told (Decision·of.Changes change) = refl
     of-told Decision·of.DayEnds = refl
 
-    of-booked : (d : Decision) → ruledBy b f (ofDecision d) ≡ withDecision b f d
+    of-booked : (d : Decision) → ruledBy b f (ofDecision d) ≡ openWith (bookedBy (b .tables) (b .account) f d)
     of-booked (Decision·of.Refused why) = λ i. record { stage = stands i; tables = b .tables; account = b .account }
     of-booked (Decision·of.Changes change) = refl
     of-booked Decision·of.DayEnds = refl
@@ -96,9 +97,9 @@ module _ (b : Book) (f : Figures) where
       (subst (λ (v : Verdict·of.Verdict). Leads (by-kind entry) v (withEntry b entry f)) (sym (entry-verdict b f entry few))
       (subst (λ (ruling : Ruling). Leads ruling (refusalOf (b .tables) (b .account) entry f) (withEntry b entry f)) (entry-ruling entry few)
       (entry-leads entry (open-stage (b .stage) (codeOf (kindOf entry)) few placed)))))
-      (λ row placed. row-taken (underlyingAllowed row && ltb (b .tables .m) 8) (Underlying row) refl (λ h. ltb-true _ _ (second-holds (underlyingAllowed row) _ h)))
-      (λ row placed. row-taken (contractAllowed (b .tables .m) row && ltb (b .tables .n) 64) (Contract row) refl (λ h. ltb-true _ _ (second-holds (contractAllowed (b .tables .m) row) _ h)))
-      (λ cash placed. row-taken (cash ∈ rangeOf OpeningCash) (Opening cash) refl (λ h. tt))
+      (λ row placed. row-taken (underlyingAllowed row && ltb (b .tables .m) 8) (Renews (Underlying row)) refl (λ h. ltb-true _ _ (second-holds (underlyingAllowed row) _ h)))
+      (λ row placed. row-taken (contractAllowed (b .tables .m) row && ltb (b .tables .n) 64) (Renews (Contract row)) refl (λ h. ltb-true _ _ (second-holds (contractAllowed (b .tables .m) row) _ h)))
+      (λ cash placed. row-taken (cash ∈ rangeOf OpeningCash) (Renews (Opening cash)) refl (λ h. tt))
 
 module _ (b : Book) (entry : Entry·of.Entry) (f : Figures) where
   pub in-its-place : inPlace (b .stage) (codeOf (kindOf entry)) ≡ true → by-kind b f entry ≡ rulingOn b entry f

@@ -1,34 +1,31 @@
-// The book after a ruling: the one place that changes a book.
-use crate::ruling::Ruling;
+// A book made anew: by a row of its tables, by its opening, or by a day end.
+use crate::ruling::Renewal;
 use crate::stages::Book;
 use crate::stages::Stage;
-use account::Decision;
+use day_end::ended;
 use entries::Contract;
 use entries::Figures;
 use entries::Underlying;
-use steps::booked;
 ghost use mathlib.Core.Path.{_≡_};
 ghost use Prim.Native.Nat.{_<_};
 ghost use Rattle.account.specs.Sound.{Sound};
-ghost use Rattle.steps.specs.Booked.{Rests};
-ghost use Rattle.set_up.specs.Rulings.{RestsOn, ruledBy, withDecision};
+ghost use Rattle.day_end.specs.Ended.{FiguresTaken};
+ghost use Rattle.set_up.specs.Rulings.{RenewsOn, renewedBy, withDayEnd};
 ghost use Rattle.set_up.specs.Sound.{SoundBook};
 ghost use Rattle.set_up.specs.Stages.{withContract, withUnderlying};
 
-pub fn ruled(book: Book, figures: Figures, ruling: Ruling) -> Book
-    requires { ⌜ SoundBook book × RestsOn book figures ruling ⌝ }
-    ensures { λ r. ⌜ r ≡ ruledBy book figures ruling ⌝ }
+pub fn renewed(book: Book, figures: Figures, renewal: Renewal) -> Book
+    requires { ⌜ SoundBook book × RenewsOn book figures renewal ⌝ }
+    ensures { λ r. ⌜ r ≡ renewedBy book figures renewal ⌝ }
 {
-    match ruling {
-        Ruling::Refused(_) => book,
-        Ruling::Underlying(row) => with_underlying(book, row),
-        Ruling::Contract(row) => with_contract(book, row),
-        Ruling::Opening(cash) => {
+    match renewal {
+        Renewal::Underlying(row) => with_underlying(book, row),
+        Renewal::Contract(row) => with_contract(book, row),
+        Renewal::Opening(cash) => {
             let tables = book.tables;
             Book::opened(tables, cash)
         }
-        Ruling::Changes(change) => with_decision(book, figures, Decision::Changes(change)),
-        Ruling::DayEnds => with_decision(book, figures, Decision::DayEnds),
+        Renewal::DayEnds => with_day_end(book, figures),
     }
 }
 
@@ -64,14 +61,14 @@ fn with_contract(book: Book, row: Contract) -> Book
     }
 }
 
-// What is decided about an entry is booked on the open account.
-fn with_decision(book: Book, figures: Figures, decision: Decision) -> Book
-    requires { ⌜ Sound (book .tables) (book .account) × Rests (book .tables) (book .account) figures decision ⌝ }
-    ensures { λ r. ⌜ r ≡ withDecision book figures decision ⌝ }
+// The day of an open book ends.
+fn with_day_end(book: Book, figures: Figures) -> Book
+    requires { ⌜ Sound (book .tables) (book .account) × FiguresTaken (book .tables) figures ⌝ }
+    ensures { λ r. ⌜ r ≡ withDayEnd book figures ⌝ }
 {
     let before = book.tables;
     let account = book.account;
-    let outcome = booked(before, account, figures, decision);
+    let outcome = ended(before, account, figures);
     let tables = outcome.tables;
     let account = outcome.account;
     Book {

@@ -3,7 +3,8 @@ mod after;
 mod ruling;
 mod stages;
 
-pub use after::ruled;
+pub use after::renewed;
+pub use ruling::Renewal;
 pub use ruling::Ruling;
 pub use ruling::rule;
 pub use stages::Book;

@@ -18,13 +18,18 @@ ghost use Rattle.set_up.specs.Rulings.{contractRuling, ofDecision, openi
 ghost use Rattle.set_up.specs.Sound.{BookSeen, WhereverBook};
 ghost use Rattle.set_up.specs.Stages.{inPlace};
 
-// What a record comes to: why it is refused, what it adds to the book, or what an entry changes.
+// What a record comes to: why it is refused, what an entry changes, or what makes the book anew. A change is written where the account
+// lives; a book that is made anew comes back whole, which is seldom.
 pub enum Ruling {
     Refused(Refusal),
+    Changes(Change),
+    Renews(Renewal),
+}
+
+pub enum Renewal {
     Underlying(Underlying),
     Contract(Contract),
     Opening(u64),
-    Changes(Change),
     DayEnds,
 }
 
@@ -34,11 +39,8 @@ impl Ruling {
     {
         match self {
             Ruling::Refused(why) => Verdict::Refused(why),
-            Ruling::Underlying(_) => Verdict::Accepted,
-            Ruling::Contract(_) => Verdict::Accepted,
-            Ruling::Opening(_) => Verdict::Accepted,
             Ruling::Changes(_) => Verdict::Accepted,
-            Ruling::DayEnds => Verdict::Accepted,
+            Ruling::Renews(_) => Verdict::Accepted,
         }
     }
 
@@ -49,7 +51,7 @@ impl Ruling {
         match decision {
             Decision::Refused(why) => Ruling::Refused(why),
             Decision::Changes(change) => Ruling::Changes(change),
-            Decision::DayEnds => Ruling::DayEnds,
+            Decision::DayEnds => Ruling::Renews(Renewal::DayEnds),
         }
     }
 }
@@ -85,7 +87,7 @@ fn underlying(m: usize, row: Underlying) -> Ruling
     ensures { λ r. ⌜ r ≡ underlyingRuling m row ⌝ }
 {
     if underlying_allowed(row) & (m < terms::UNDERLYINGS) {
-        Ruling::Underlying(row)
+        Ruling::Renews(Renewal::Underlying(row))
     } else {
         Ruling::Refused(Refusal::OutOfRange)
     }
@@ -95,7 +97,7 @@ fn contract(m: usize, n: usize, row: Contract) -> Ruling
     ensures { λ r. ⌜ r ≡ contractRuling m n row ⌝ }
 {
     if contract_allowed(m, row) & (n < terms::CONTRACTS) {
-        Ruling::Contract(row)
+        Ruling::Renews(Renewal::Contract(row))
     } else {
         Ruling::Refused(Refusal::OutOfRange)
     }
@@ -105,7 +107,7 @@ fn opening(cash: u64) -> Ruling
     ensures { λ r. ⌜ r ≡ openingRuling cash ⌝ }
 {
     if Measure::OpeningCash.allows(cash) {
-        Ruling::Opening(cash)
+        Ruling::Renews(Renewal::Opening(cash))
     } else {
         Ruling::Refused(Refusal::OutOfRange)
     }

@@ -34,7 +34,7 @@ use Rattle.steps.proofs.decide.Reads as decide
 use Rattle.steps.proofs.booked.Reads as booked
 use Rattle.steps.proofs.step.Reads as step
 use Rattle.set_up.proofs.rule.Reads as rule
-use Rattle.set_up.proofs.ruled.Reads as ruled
+use Rattle.set_up.proofs.renewed.Reads as renewed
 use Rattle.rows.proofs.list_verdict.Reads as list-verdict
 use Rattle.desk.proofs.run_list.Reads as run-list
 use Rattle.desk.proofs.run_book.Reads as run-book
@@ -138,8 +138,8 @@ step-one κs a r r' s s' p q = p ∙ sym q
 pub rule-one : (κs : _) (a : _) (r r' : _) (s s' : _) → rule.Pre κs a → rule.Post κs a r s → rule.Post κs a r' s' → r ≡ r'
 rule-one κs a r r' s s' of p q = p (of .book) (of .sees) ∙ sym (q (of .book) (of .sees))
 
-pub ruled-one : (κs : _) (a : _) (r r' : _) (s s' : _) → ruled.Post κs a r s → ruled.Post κs a r' s' → r ≡ r'
-ruled-one κs a r r' s s' p q = p ∙ sym q
+pub renewed-one : (κs : _) (a : _) (r r' : _) (s s' : _) → renewed.Post κs a r s → renewed.Post κs a r' s' → r ≡ r'
+renewed-one κs a r r' s s' p q = p ∙ sym q
 
 pub list-verdict-one : (κs : _) (a : _) (r r' : _) (s s' : _) → list-verdict.Post κs a r s → list-verdict.Post κs a r' s' → r ≡ r'
 list-verdict-one κs a r r' s s' p q = p ∙ sym q

@@ -18,7 +18,7 @@ use Rattle.gathering.proofs.RowsRead.{row-inside, rows-read}
 use Rattle.set_up.specs.Rulings.{RestsOn, ruledBy}
 use Rattle.set_up.specs.Sound.{SeesBook, SoundBook}
 use Rattle.set_up.specs.declared.ruling.Ruling.{Ruling}
-use Rattle.set_up.specs.declared.ruling.Ruling.the-variants.{Changes}
+use Rattle.set_up.specs.declared.ruling.Ruling.the-variants.{Changes, Renews}
 use Rattle.set_up.specs.declared.stages.Book.{Book}
 use Rattle.set_up.specs.declared.stages.Stage.{Stage}
 use Rattle.desk.specs.Runs.{Answered, answerTo, placesIn, runFrom}
@@ -154,7 +154,7 @@ module _ (c : tie.At-match2-came Inv-loop μ-loop) where
   as-ruled is e so = so ∙ sym (ap (ruledBy (before (of ruled-on)) (read (of ruled-on) .reading .figures)) e)
 
   same-ruling : c .match2 .ruling ≡ ruled-on .match .ruling
-  same-ruling = ⊎-elim (λ m. m .5) (⊎-elim (λ m. m .7 ∙ sym (m .1 .given .1)) (λ m. m .7)) (c .match2 .came)
+  same-ruling = ⊎-elim (λ m. m .5) (⊎-elim (λ m. m .7 ∙ sym (m .1 .given .1)) (λ m. m .9 ∙ sym (m .1 .given .1))) (c .match2 .came)
 
   books : after-turn ≡ ruledBy (before (of ruled-on)) (read (of ruled-on) .reading .figures) (ruled-on .match .ruling)
   books =
@@ -164,7 +164,7 @@ module _ (c : tie.At-match2-came Inv-loop μ-loop) where
       (λ m.
       let stands = rests-as ruled-on (Changes (m .1 .given .0 .0)) (m .1 .given .1) .0 in
       as-ruled _ (m .1 .given .1) (λ i. book ((m .4 ∙ stands) i) (m .5 i) ((m .6 ∙ m .3 .ensures) i)))
-      (λ m. (λ i. book (m .4 i) (m .5 i) (m .6 i)) ∙ m .1 .ensures))
+      (λ m. as-ruled _ (m .1 .given .1) ((λ i. book (m .6 i) (m .7 i) (m .8 i)) ∙ m .3 .ensures)))
       (c .match2 .came)
 
   sound : SoundBook after-turn
@@ -286,7 +286,8 @@ run-on-spec =
     (λ c. search needs)
     (λ c. search needs)
     (λ c κs. rests-as (c .before .before .before) (Changes (c .before .ruling .given .0 .0)) (c .before .ruling .given .1) .1)
-    (λ c κs. (was-sound (of (c .before)), rests (c .before)))
+    (λ c. search needs)
+    (λ c κs. (was-sound (of (c .before .before .before)), rests-as (c .before .before .before) (Renews (c .before .ruling2 .given .0 .0)) (c .before .ruling2 .given .1)))
     (λ c κs. tt)
     (λ c κs. tt)
     (λ c. omega (arith, tests (turn (of (ruled-on (c .before .before))) .before)))

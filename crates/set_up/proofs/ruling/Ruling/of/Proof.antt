@@ -14,4 +14,4 @@ of-spec =
     (λ c. search needs)
     (λ c. sym (ap ofDecision (c .before .decision .given .1)))
     (λ c. sym (ap ofDecision (c .before .decision2 .given .1)))
-    (λ c. search needs))
+    (λ c. sym (ap ofDecision (c .enum-told .given .1))))
