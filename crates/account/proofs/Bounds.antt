@@ -204,9 +204,6 @@ module _ {t : Tables} {a : Account} (sound : Sound t a) where
   pub left-so-far : (p : Resting → Bool) (k : ℕ) → k ≤ 32 → Σ k (λ i. order a i .left .0 when p (order a i)) ≤ 3_200
   left-so-far = some-places (λ r. r .left .0) 100 (λ i h. small i h .left)
 
-  pub units-so-far : (p : Resting → Bool) (k : ℕ) → k ≤ 32 → Σ k (λ i. unitsFor (order a i .left) (contract t (order a i .contract) .unit) .0 when p (order a i)) ≤ 320_000_000
-  units-so-far = some-places (λ r. unitsFor (r .left) (contract t (r .contract) .unit) .0) 10_000_000 (λ i h. small i h .units)
-
   pub holds-most : a .sheet .holds ≤ 32 * (100 * 20_000_000_000) + 10_000_000_000_000
   unfolding holdsIn overOrders
   holds-most = omega (arith, sound .holds, sound .waiting, Σ-bound 32 (λ i. holdOf t (order a i)) (100 * 20_000_000_000) (λ i h. small i h .hold))
