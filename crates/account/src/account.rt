@@ -13,8 +13,8 @@ ghost use Rattle.account.specs.Opening.{opening};
 ghost use Rattle.account.specs.Rows.{free, order, position};
 ghost use Rattle.account.specs.Running.{Moves, freeAt, freeMoved, ordered};
 
-// All 32 places are free.
-const ALL_FREE: u32 = 4_294_967_295;
+// All 32 places are free, as binary digits.
+pub const ALL_FREE: u32 = 4_294_967_295;
 
 // The money sheet, in fen. Covered premium is what was received today for covered opening.
 pub struct Sheet {

@@ -5,6 +5,7 @@ mod running;
 mod tables;
 mod term;
 
+pub use account::ALL_FREE;
 pub use account::Account;
 pub use account::Holding;
 pub use account::Resting;

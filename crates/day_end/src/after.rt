@@ -1,4 +1,5 @@
 // The account after a day end, one contract's three counts at a time.
+use account::ALL_FREE;
 use account::Account;
 use account::Holding;
 use account::Resting;
@@ -19,9 +20,6 @@ ghost use Rattle.rules.specs.Netting.{netted};
 ghost use Rattle.account.specs.DayEnd.{dayEnded};
 ghost use Rattle.account.specs.Sound.{Sound};
 ghost use Rattle.day_end.specs.Passes.{HeldFits, Summed, withHeld, withUnits, workedTo};
-
-// All 32 places are free.
-const ALL_FREE: u32 = 4_294_967_295;
 
 // What a pass over the contracts works out, at the figures of the tables.
 struct Worked {
