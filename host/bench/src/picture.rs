@@ -2,7 +2,7 @@
 
 use crate::growth::Measure;
 use crate::report::{Curve, Report};
-use crate::versions::VERSIONS;
+use crate::versions::in_hand;
 use std::fmt::Write;
 
 const WIDTH: f64 = 1120.0;
@@ -120,8 +120,8 @@ fn opening() -> String {
     );
     let title = "What an order costs as the account grows";
     svg += &text(LEFT, 30.0, "font-size=\"17\" font-weight=\"bold\"", title);
-    let step = (WIDTH - LEFT) / VERSIONS.len() as f64;
-    for (place, version) in (0..).zip(&VERSIONS) {
+    let step = (WIDTH - LEFT) / in_hand().len() as f64;
+    for (place, version) in (0..).zip(in_hand()) {
         let x = LEFT + step * f64::from(place);
         let stroke = format!("stroke=\"{}\" stroke-width=\"2.5\"", version.colour);
         svg += &line((x, 54.0), (x + 24.0, 54.0), &stroke);
@@ -150,7 +150,7 @@ impl Panel<'_> {
             let words = tick.to_string();
             svg += &text(at, BOTTOM + 19.0, "text-anchor=\"middle\"", &words);
         }
-        for (place, version) in VERSIONS.iter().enumerate() {
+        for (place, version) in in_hand().iter().enumerate() {
             let points = self.curve.points.iter();
             let points = points.map(|(count, spreads)| (*count as f64, spreads[place].median));
             let points: Vec<(f64, f64)> = points.map(|(c, t)| (x(c), y(t))).collect();

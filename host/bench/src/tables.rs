@@ -2,7 +2,7 @@
 
 use crate::report::{Curve, Report};
 use crate::timing::Spread;
-use crate::versions::{sizes, VERSIONS};
+use crate::versions::{in_hand, sizes, Version, VERSIONS};
 
 pub fn told(report: &Report) -> String {
     let curves = report.contracts.iter().chain(&report.resting);
@@ -28,12 +28,13 @@ fn words<const N: usize>(words: [&str; N]) -> Vec<String> {
     words.map(String::from).to_vec()
 }
 
-fn names() -> impl Iterator<Item = String> {
-    VERSIONS.iter().map(|version| version.name.to_string())
+fn names(versions: &[Version]) -> impl Iterator<Item = String> + '_ {
+    versions.iter().map(|version| version.name.to_string())
 }
 
 fn versions() -> String {
-    let rows = VERSIONS.map(|version| words([version.name, version.manner]));
+    let row = |version: &Version| words([version.name, version.manner]);
+    let rows = VERSIONS.iter().map(row);
     table(
         "The versions, optimised alike.",
         words(["version", "what it is"]),
@@ -60,7 +61,11 @@ fn books(report: &Report) -> String {
         cells.chain(against_last(&book.spreads, last)).collect()
     });
     let says = "Nanoseconds for a record: the median of all rounds, the quartiles, and the multiple of the last version's median.";
-    table(says, head.into_iter().chain(names()).collect(), rows)
+    table(
+        says,
+        head.into_iter().chain(names(VERSIONS)).collect(),
+        rows,
+    )
 }
 
 /// What an order costs on the smallest account and on the largest, and how many times as much.
@@ -72,13 +77,15 @@ fn corners(report: &Report) -> String {
         let smallest = &contracts.points[0].1;
         let largest = &resting.points[resting.points.len() - 1].1;
         let corners = smallest.iter().zip(largest);
-        names().zip(corners).map(move |(name, (small, large))| {
-            let (small, large) = (small.median, large.median);
-            let times = [small, large].map(|time| format!("{time:.1}"));
-            let ratio = format!("{:.2}", large / small);
-            let cells = [contracts.cost.to_string(), name].into_iter();
-            cells.chain(times).chain([ratio]).collect()
-        })
+        names(in_hand())
+            .zip(corners)
+            .map(move |(name, (small, large))| {
+                let (small, large) = (small.median, large.median);
+                let times = [small, large].map(|time| format!("{time:.1}"));
+                let ratio = format!("{:.2}", large / small);
+                let cells = [contracts.cost.to_string(), name].into_iter();
+                cells.chain(times).chain([ratio]).collect()
+            })
     });
     table(says, head, rows)
 }
@@ -86,7 +93,7 @@ fn corners(report: &Report) -> String {
 fn curve(curve: &Curve) -> String {
     let counts = curve.points.iter().map(|(count, _)| count.to_string());
     let head = [curve.axis.to_string()].into_iter().chain(counts).collect();
-    let rows = names().enumerate().map(|(version, name)| {
+    let rows = names(in_hand()).enumerate().map(|(version, name)| {
         let times = curve
             .points
             .iter()

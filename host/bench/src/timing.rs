@@ -1,19 +1,24 @@
 //! Bytes that every version answers from its own book in hand: first the answers are compared, then the time is taken.
 
-use crate::versions::{Answers, InHand, VERSIONS};
+use crate::versions::{in_hand, Answers, InHand, VERSIONS};
 use std::time::{Duration, Instant};
 
 pub struct Task {
     books: Vec<Box<dyn InHand>>,
     bytes: Vec<u8>,
-    /// As all versions give them.
+    /// As all these versions give them.
     pub answers: Answers,
 }
 
 impl Task {
     /// The bytes, on the book that the bytes before them lead to; or what differs.
     pub fn new(name: &str, before: &[u8], bytes: Vec<u8>) -> Result<Task, String> {
-        let books = VERSIONS.iter().map(|version| (version.new)().after(before));
+        let versions = if before.is_empty() {
+            VERSIONS
+        } else {
+            in_hand()
+        };
+        let books = versions.iter().map(|version| (version.after)(before));
         let books: Vec<Box<dyn InHand>> = books.collect();
         let mut given = books.iter().map(|book| {
             // A record takes a byte at least.
@@ -23,9 +28,9 @@ impl Task {
             answers
         });
         let first = given.next().expect("there is a version");
-        for (version, other) in VERSIONS[1..].iter().zip(given) {
+        for (version, other) in versions[1..].iter().zip(given) {
             if let Some(report) = difference(&first, &other) {
-                let names = format!("{} and {}", VERSIONS[0].name, version.name);
+                let names = format!("{} and {}", versions[0].name, version.name);
                 return Err(format!("{name}: {names} differ, {report}"));
             }
         }
@@ -113,7 +118,7 @@ impl Spread {
 pub fn time(tasks: &[&Task], effort: &Effort) -> Vec<Vec<Spread>> {
     let most = tasks.iter().map(|task| task.records()).max().unwrap_or(0);
     let mut places = Answers::places(most);
-    let pairs = |task| (0..VERSIONS.len()).map(move |version| (task, version));
+    let pairs = |task: usize| (0..tasks[task].books.len()).map(move |version| (task, version));
     let pairs: Vec<(usize, usize)> = (0..tasks.len()).flat_map(pairs).collect();
     let times: Vec<u32> = pairs
         .iter()
@@ -126,11 +131,9 @@ pub fn time(tasks: &[&Task], effort: &Effort) -> Vec<Vec<Spread>> {
             samples.push(taken / f64::from(times) / tasks[task].records() as f64);
         }
     }
-    let spreads: Vec<Spread> = samples.into_iter().map(Spread::of).collect();
-    spreads
-        .chunks(VERSIONS.len())
-        .map(<[Spread]>::to_vec)
-        .collect()
+    let mut spreads = samples.into_iter().map(Spread::of);
+    let told = |task: &&Task| spreads.by_ref().take(task.books.len()).collect();
+    tasks.iter().map(told).collect()
 }
 
 /// How many repeats fill a round. The first ones warm up what they use.

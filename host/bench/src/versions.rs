@@ -1,4 +1,4 @@
-//! The versions, each behind the same two functions.
+//! The versions, each behind the same function.
 
 use std::mem::size_of;
 
@@ -86,20 +86,11 @@ impl Book for in_place::Book {
 /// A book in hand that stays as it is: each run starts from it again.
 pub trait InHand {
     fn answer(&self, bytes: &[u8], answers: &mut Answers) -> usize;
-
-    fn after(&self, bytes: &[u8]) -> Box<dyn InHand>;
 }
 
 impl<B: Book> InHand for B {
     fn answer(&self, bytes: &[u8], answers: &mut Answers) -> usize {
         self.clone().run_on(bytes, answers)
-    }
-
-    fn after(&self, bytes: &[u8]) -> Box<dyn InHand> {
-        let mut book = self.clone();
-        // A record takes a byte at least.
-        book.run_on(bytes, &mut Answers::places(bytes.len()));
-        Box::new(book)
     }
 }
 
@@ -109,34 +100,45 @@ pub struct Version {
     pub manner: &'static str,
     /// Its colour in the picture.
     pub colour: &'static str,
-    pub new: fn() -> Box<dyn InHand>,
+    /// The book that these bytes lead to.
+    pub after: fn(&[u8]) -> Box<dyn InHand>,
 }
 
-fn boxed<B: Book>() -> Box<dyn InHand> {
-    Box::new(B::new())
+fn after<B: Book>(before: &[u8]) -> Box<dyn InHand> {
+    let mut book = B::new();
+    // A record takes a byte at least.
+    book.run_on(before, &mut Answers::places(before.len()));
+    Box::new(book)
 }
 
 /// The one table of versions. The others' times are told as multiples of the last one's.
-pub const VERSIONS: [Version; 3] = [
+pub const VERSIONS: &[Version] = &[
+    #[cfg(archive)]
+    crate::archive::VERSION,
     Version {
         name: "native",
         manner: "the crates' proved source, by rustc",
         colour: "#1f6fb4",
-        new: boxed::<native::set_up::Book>,
+        after: after::<native::set_up::Book>,
     },
     Version {
         name: "plain",
         manner: "ordinary Rust, every sum made anew",
         colour: "#d9772b",
-        new: boxed::<plain::book::Book>,
+        after: after::<plain::book::Book>,
     },
     Version {
         name: "in_place",
         manner: "ordinary Rust in place, every sum kept",
         colour: "#2a8a57",
-        new: boxed::<in_place::Book>,
+        after: after::<in_place::Book>,
     },
 ];
+
+/// The versions that go on with a book in hand: all but the archive, which is the first where it is linked.
+pub fn in_hand() -> &'static [Version] {
+    &VERSIONS[usize::from(cfg!(archive))..]
+}
 
 /// How many bytes the values are that the versions pass on or change where they stand.
 pub fn sizes() -> [(&'static str, usize); 4] {

@@ -1,7 +1,7 @@
 //! Every version gives the answers that `plain`'s own run gives, on the telling books, on random ones, and on a book that is taken up
 //! again in the middle.
 
-use bench::versions::{Answers, VERSIONS};
+use bench::versions::{in_hand, Answers, VERSIONS};
 use plain::book::run_book;
 use plain::record::read;
 use trials::{booking, telling};
@@ -13,9 +13,9 @@ fn expected(bytes: &[u8]) -> Answers {
 
 fn hold(name: &str, bytes: &[u8]) {
     let expected = expected(bytes);
-    for version in &VERSIONS {
+    for version in VERSIONS {
         let mut answers = Answers::places(bytes.len());
-        let answered = (version.new)().answer(bytes, &mut answers);
+        let answered = (version.after)(&[]).answer(bytes, &mut answers);
         answers.truncate(answered);
         assert_eq!(answers, expected, "{}, {name}", version.name);
     }
@@ -46,8 +46,8 @@ fn a_book_that_is_taken_up_again() {
             records += 1;
         }
         let (before, rest) = bytes.split_at(place);
-        for version in &VERSIONS {
-            let book = (version.new)().after(before);
+        for version in in_hand() {
+            let book = (version.after)(before);
             let mut answers = Answers::places(rest.len());
             let answered = book.answer(rest, &mut answers);
             assert_eq!(records + answered, expected.numbers.len());

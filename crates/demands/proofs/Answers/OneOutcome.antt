@@ -39,6 +39,7 @@ use Rattle.rows.proofs.list_verdict.Reads as list-verdict
 use Rattle.desk.proofs.run_list.Reads as run-list
 use Rattle.desk.proofs.run_book.Reads as run-book
 use Rattle.desk.proofs.run_on.Reads as run-on
+use Rattle.archive.proofs.ravundesk_run_book.Reads as ravundesk-run-book
 use Rattle.demands.proofs.Answers.Lent.{NewSays, NextSays, PostSays}
 
 pub margin-one : (κs : _) (a : _) (r r' : _) (s s' : _) → margin.Post κs a r s → margin.Post κs a r' s' → r ≡ r'
@@ -156,3 +157,8 @@ run-book-one κs a r r' s s' p q = (p .0 ∙ sym (q .0), p .1 .0 ∙ sym (q .1 .
 pub run-on-one : (κs : _) (a : _) (r r' : _) (s s' : _) → run-on.Post κs a r s → run-on.Post κs a r' s'
     → (r ≡ r') × (now (s .1 .1 .1 .0) ≡ now (s' .1 .1 .1 .0)) × (now (s .1 .1 .1 .1 .0) ≡ now (s' .1 .1 .1 .1 .0))
 run-on-one κs a r r' s s' p q = (p .0 ∙ sym (q .0), p .1 .0 ∙ sym (q .1 .0), p .1 .1 ∙ sym (q .1 .1))
+
+-- what other programs link ends in one way too
+pub ravundesk-run-book-one : (κs : _) (a : _) (r r' : _) (s s' : _) → ravundesk-run-book.Post κs a r s → ravundesk-run-book.Post κs a r' s'
+    → (r ≡ r') × (now (s .1 .0) ≡ now (s' .1 .0)) × (now (s .1 .1 .0) ≡ now (s' .1 .1 .0))
+ravundesk-run-book-one κs a r r' s s' p q = (p .0 ∙ sym (q .0), p .1 .0 ∙ sym (q .1 .0), p .1 .1 ∙ sym (q .1 .1))
