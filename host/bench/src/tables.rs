@@ -36,7 +36,7 @@ fn versions() -> String {
     let row = |version: &Version| words([version.name, version.manner]);
     let rows = VERSIONS.iter().map(row);
     table(
-        "The versions, optimised alike.",
+        "The versions; those that rustc compiles are optimised alike.",
         words(["version", "what it is"]),
         rows,
     )

@@ -1,4 +1,4 @@
-//! Bytes that every version answers from its own book in hand: first the answers are compared, then the time is taken.
+//! Bytes that the versions answer, each from its own book in hand: first the answers are compared, then the time is taken.
 
 use crate::versions::{in_hand, Answers, InHand, VERSIONS};
 use std::time::{Duration, Instant};
