@@ -53,6 +53,9 @@ use Rattle.desk.specs.declared.Run.{Run}
 use Rattle.desk.proofs.run_book.Met as run-book-met
 use Rattle.desk.proofs.run_book.Reads as run-book
 use Rattle.desk.proofs.run_book.Statement as run-book-statement
+use Rattle.archive.proofs.ravundesk_run_book.Met as ravundesk-run-book-met
+use Rattle.archive.proofs.ravundesk_run_book.Reads as ravundesk-run-book
+use Rattle.archive.proofs.ravundesk_run_book.Statement as ravundesk-run-book-statement
 use Rattle.desk.proofs.run_list.Met as run-list-met
 use Rattle.desk.proofs.run_list.Reads as run-list
 use Rattle.desk.proofs.run_list.Statement as run-list-statement
@@ -99,6 +102,9 @@ run-list-answers M = run-list-met.met
 pub run-book-answers : (M : Type 1) → run-book-statement.statement M
 run-book-answers M = run-book-met.met
 
+pub ravundesk-run-book-answers : (M : Type 1) → ravundesk-run-book-statement.statement M
+ravundesk-run-book-answers M = ravundesk-run-book-met.met
+
 -- "nobody has to check first"
 pub margin-asks : (κs : _) (a : _) → margin.Pre κs a
 margin-asks κs a = tt
@@ -129,6 +135,9 @@ run-list-asks κs a = tt
 
 pub run-book-asks : (κs : _) (a : _) → run-book.Pre κs a
 run-book-asks κs a = tt
+
+pub ravundesk-run-book-asks : (κs : _) (a : _) → ravundesk-run-book.Pre κs a
+ravundesk-run-book-asks κs a = tt
 
 -- "refuses bad input by number"
 charge-number : (allowed : Bool) (charge r : Charge) → r ≡ charge → charges.numberIn charge ≡ cond allowed 0 4 → OneOf (0 ∷ 4 ∷ []) (charges.numberIn r)
