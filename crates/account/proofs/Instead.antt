@@ -9,7 +9,8 @@ use lib.ListN.{length, getD, set}
 use lib.Seq.{getD-set-same, getD-set-other}
 use Rattle.terms.specs.declared.count.Position.{Position}
 use Rattle.account.specs.Rows.{noPosition}
-use Rattle.account.specs.Running.{ClosingMoves, Moves, RunningMoves, closingMoved, instead, noRunning, runningMoved}
+use Rattle.account.specs.Running.{closingMoved, instead, noRunning, runningMoved}
+use Rattle.account.specs.Room.{ClosingMoves, Moves, RunningMoves}
 use Rattle.account.specs.Sums.{Σ, _when_}
 use Rattle.account.specs.declared.running.Running.{Running}
 use Rattle.account.proofs.Sums.{Σ-changed, Σ-same, Σ-term}

@@ -14,7 +14,8 @@ use Rattle.terms.specs.declared.kind.OrderKind.{OrderKind}
 use Rattle.terms.specs.declared.kind.OrderKind.the-variants.{BuyOpen, SellClose, BuyClose, CoveredOpen, CoveredClose}
 use Rattle.terms.specs.declared.kind.Side.{Side}
 use Rattle.terms.specs.declared.kind.Side.the-variants.{Long, Short, Covered}
-use Rattle.account.specs.Changes.{Movable, applied}
+use Rattle.account.specs.Changes.{applied}
+use Rattle.account.specs.Room.{Movable}
 use Rattle.account.specs.Fills.{orderAfter}
 use Rattle.account.specs.Rows.{free, noPosition, contract, position, order}
 use Rattle.account.specs.Running.{closing, closingMoved, closingOf, closingOn, freeAt, freeIn, noRunning, ordered, running, runningIn, runningMoved, runningOf}

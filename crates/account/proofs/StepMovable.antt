@@ -7,7 +7,8 @@ use lib.ListN.{List·getD-eq-default}
 use Rattle.entries.specs.declared.entry.Entry.{Entry}
 use Rattle.entries.specs.declared.entry.Entry.the-variants.{Deposit, Withdraw, Lock, Unlock, Order, Fill, Cancel, DayEnd, Pay, Drop, Underlying, Contract, Opening}
 use Rattle.entries.specs.declared.entry.Figures.{Figures}
-use Rattle.account.specs.Changes.{Movable, withoutPosition}
+use Rattle.account.specs.Changes.{withoutPosition}
+use Rattle.account.specs.Room.{Movable}
 use Rattle.account.specs.Fills.{named}
 use Rattle.account.specs.Locks.{lockVerdict, unlockVerdict, lockChange, unlockChange}
 use Rattle.account.specs.Rows.{free, noPosition, order, position}

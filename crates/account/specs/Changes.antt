@@ -1,8 +1,8 @@
 -- What an accepted entry changes, and the account after it: the one place that says how an account changes within the day (house).
-use Prim.Native.Nat.{ℕ, _<_}
+use Prim.Native.Nat.{ℕ}
 use lib.ListN.{set}
 use Rattle.account.specs.Rows.{free, noPosition, noHolding, position, order}
-use Rattle.account.specs.Running.{ClosingMoves, Moves, RunningMoves, closing, closingMoved, closingOf, freeAt, freeMoved, ordered, running, runningMoved, runningOf}
+use Rattle.account.specs.Running.{closing, closingMoved, closingOf, freeMoved, ordered, running, runningMoved, runningOf}
 use Rattle.terms.specs.declared.count.Position.{Position}
 use Rattle.account.specs.declared.account.Account.{Account}
 use Rattle.account.specs.declared.account.Holding.{Holding}
@@ -64,13 +64,6 @@ applied a change =
       free = freeMoved (a .free) (change .place) old (change .order);
       last = written a change .last;
     }
-
--- what is kept can be moved with the change: what is taken off is there, and what comes out fits (house)
-pub record Movable (a : Account) (change : Change) : Type 0 where
-  pub running :
-      RunningMoves (running a (change .underlying)) (runningOf (position a (change .contract)) (order a (change .place)) (change .unit)) (runningOf (change .position) (change .order) (change .unit))
-  pub closing : ClosingMoves (closing a (ordered (order a (change .place)) (change .order))) (closingOf (order a (change .place))) (closingOf (change .order))
-  pub free : change .place < 32 → Moves 32 (a .free) (freeAt (change .place) (order a (change .place))) (freeAt (change .place) (change .order))
 
 -- a change that moves no position: money, one place and one underlying's holding; 64 is past the last contract and names none (house)
 abbrev pub withoutPosition : Sheet → Waiting → ℕ → Resting → ℕ → ℕ → Holding → ℕ → Change

@@ -105,7 +105,7 @@ dailyZero a = withHoldings a (λ u. record { locked = holding a u .locked; bough
 unfoldable pub unitsReleased : Tables → Account → Account
 unitsReleased t a = withHoldings a (λ u. record { locked = record { 0 = coveredUnits t a u }; bought = holding a u .bought })
 
--- "a day end sets them anew": no order rests, and what is kept of an underlying is what is held there (#107)
+-- what is kept, set anew: no order rests, and of an underlying it is what is held there (#107)
 unfoldable pub keptAnew : Tables → Account → Account
 keptAnew t a =
     record {

@@ -8,6 +8,7 @@ pub mod Locks
 pub mod Money
 pub mod Opening
 pub mod Orders
+pub mod Room
 pub mod Rows
 pub mod Running
 pub mod Seen

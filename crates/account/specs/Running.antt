@@ -1,5 +1,5 @@
 -- What is kept as we go (02, #107): for each underlying its totals, for each contract the closes that rest on it, and the free places. Each is a sum; where one row changes, the sum has the new term instead of the old one.
-use Prim.Native.Nat.{ℕ, _+_, _-_, _^_, _≤_, _<_}
+use Prim.Native.Nat.{ℕ, _+_, _-_, _^_}
 use mathlib.Core.Bool.{Bool, cond, _&&_}
 use lib.Dec.{eqb, ltb}
 use lib.ListN.{getD}
@@ -99,23 +99,3 @@ ordered old new = cond (eqb (new .number) 0) (old .contract) (new .contract)
 -- the free places where one place's order is another; past the last place there is none (house)
 abbrev pub freeMoved : ℕ → ℕ → Resting → Resting → ℕ
 freeMoved kept i old new = cond (ltb i 32) (instead kept (freeAt i old) (freeAt i new)) kept
-
--- what can be moved where numbers have so many binary digits: the old term is in the sum, and the new sum fits (house)
-abbrev pub Moves : ℕ → ℕ → ℕ → ℕ → Type 0
-Moves digits kept old new = (old ≤ kept) × (instead kept old new < 2 ^ digits)
-
-pub record RunningMoves (kept old new : Running) : Type 0 where
-  pub long : Moves 32 (kept .long .0) (old .long .0) (new .long .0)
-  pub total : Moves 32 (kept .total .0) (old .total .0) (new .total .0)
-  pub buys : Moves 32 (kept .buys .0) (old .buys .0) (new .buys .0)
-  pub opens : Moves 32 (kept .opens .0) (old .opens .0) (new .opens .0)
-  pub taken : Moves 64 (kept .taken .0) (old .taken .0) (new .taken .0)
-
-pub record ClosingMoves (kept old new : Position) : Type 0 where
-  pub long : Moves 32 (kept .long .0) (old .long .0) (new .long .0)
-  pub short : Moves 32 (kept .short .0) (old .short .0) (new .short .0)
-  pub covered : Moves 32 (kept .covered .0) (old .covered .0) (new .covered .0)
-
--- the two sums in what a position and an order count for fit (house)
-abbrev pub RunningFits : Running → Type 0
-RunningFits r = (r .total .0 < 2 ^ 32) × (r .taken .0 < 2 ^ 64)

@@ -8,10 +8,11 @@ use terms::Position;
 use terms::Units;
 ghost use mathlib.Core.Path.{_≡_};
 ghost use Prim.Native.Nat.{_^_, _<_};
-ghost use Rattle.account.specs.Changes.{Movable, applied, written};
+ghost use Rattle.account.specs.Changes.{applied, written};
+ghost use Rattle.account.specs.Room.{Movable, Moves};
 ghost use Rattle.account.specs.Opening.{opening};
 ghost use Rattle.account.specs.Rows.{free, order, position};
-ghost use Rattle.account.specs.Running.{Moves, freeAt, freeMoved, ordered};
+ghost use Rattle.account.specs.Running.{freeAt, freeMoved, ordered};
 
 // All 32 places are free, as binary digits.
 pub const ALL_FREE: u32 = 4_294_967_295;

@@ -7,7 +7,8 @@ use terms::Contracts;
 use terms::Position;
 use terms::Units;
 ghost use mathlib.Core.Path.{_≡_};
-ghost use Rattle.account.specs.Running.{ClosingMoves, RunningFits, RunningMoves, closingMoved, closingOf, runningMoved, runningOf};
+ghost use Rattle.account.specs.Running.{closingMoved, closingOf, runningMoved, runningOf};
+ghost use Rattle.account.specs.Room.{ClosingMoves, RunningFits, RunningMoves};
 ghost use Rattle.account.specs.Totals.{isOpen};
 
 // Of one underlying: contracts long, all that counts against the total limit, what is left of resting buy opens and of all resting opens, and

@@ -83,6 +83,7 @@ pub fn run_on(book: Book, bytes: &[u8], place: usize, numbers: &mut [u8], sums: 
         let figures = reading.figures;
         let ruling = match answer {
             Answer::Found { entry, length: _ } => {
+                // What it sees is read here, where the account lives: a function that is handed tables and account has them copied.
                 let orders = account.orders;
                 let found = place_of(orders, entry.order_named());
                 let i = row(terms::PLACES, found);

@@ -10,7 +10,8 @@ use Rattle.entries.specs.declared.entry.Contract as Contract·of
 use Rattle.entries.specs.declared.entry.Entry as Entry·of
 use Rattle.entries.specs.declared.entry.Figures.{Figures}
 use Rattle.entries.specs.declared.entry.Underlying as Underlying·of
-use Rattle.account.specs.Changes.{Movable, applied}
+use Rattle.account.specs.Changes.{applied}
+use Rattle.account.specs.Room.{Movable}
 use Rattle.account.specs.Sound.{contractAllowed, underlyingAllowed}
 use Rattle.account.specs.Verdicts.{_else_then_}
 use Rattle.account.specs.declared.judged.Decision.{Decision}

@@ -7,7 +7,8 @@ use Rattle.entries.specs.Table.{isDayEnd}
 use Rattle.entries.specs.declared.entry.Entry.{Entry}
 use Rattle.entries.specs.declared.entry.Figures.{Figures}
 use Rattle.entries.proofs.EachKind.{by-day-end}
-use Rattle.account.specs.Changes.{Movable, applied, decided, ending, verdictIn}
+use Rattle.account.specs.Changes.{applied, decided, ending, verdictIn}
+use Rattle.account.specs.Room.{Movable}
 use Rattle.account.specs.DayEnd.{dayEndVerdict, dayEnded, figuresInstalled}
 use Rattle.account.specs.Seen.{SeenOf, Wherever}
 use Rattle.account.specs.Sound.{Sound}

@@ -4,7 +4,8 @@ use Rattle.entries.specs.Entries.{kindOf}
 use Rattle.entries.specs.Table.{isDayEnd}
 use Rattle.entries.specs.declared.entry.Entry.{Entry}
 use Rattle.entries.specs.declared.entry.Figures.{Figures}
-use Rattle.account.specs.Changes.{Movable, applied, decided, ending}
+use Rattle.account.specs.Changes.{applied, decided, ending}
+use Rattle.account.specs.Room.{Movable}
 use Rattle.account.specs.Steps.{changeOf, refusalOf}
 use Rattle.account.specs.declared.account.Account.{Account}
 use Rattle.account.specs.declared.judged.Decision.{Decision}

@@ -1,7 +1,8 @@
 -- `closing_changed` meets its contract: what is taken off and put on is what the two orders count for.
 use mathlib.Core.Path.{sym, ap₂, subst₂, _∙_}
 use borrow.Author.Needs.{needs}
-use Rattle.account.specs.Running.{ClosingMoves, closingMoved}
+use Rattle.account.specs.Running.{closingMoved}
+use Rattle.account.specs.Room.{ClosingMoves}
 use Rattle.account.proofs.running.closing_changed.Statement.{statement}
 use Rattle.account.proofs.running.closing_changed.Tie as tie
 

@@ -8,7 +8,8 @@ use lib.ListN.{length, getD, set}
 use Rattle.terms.specs.declared.count.Position.{Position}
 use Rattle.account.specs.Changes.{applied, written}
 use Rattle.account.specs.Rows.{free, noPosition, order, position}
-use Rattle.account.specs.Running.{ClosingMoves, Moves, RunningMoves, closingMoved, closingOf, freeAt, freeMoved, noRunning, ordered, runningMoved, runningOf}
+use Rattle.account.specs.Running.{closingMoved, closingOf, freeAt, freeMoved, noRunning, ordered, runningMoved, runningOf}
+use Rattle.account.specs.Room.{ClosingMoves, Moves, RunningMoves}
 use Rattle.account.specs.declared.account.Account.{Account}
 use Rattle.account.specs.declared.account.Resting.{Resting}
 use Rattle.account.specs.declared.judged.Change.{Change}

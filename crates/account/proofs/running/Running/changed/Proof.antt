@@ -3,7 +3,8 @@ use mathlib.Core.Path.{sym, ap₂, subst₂, _∙_}
 use Prim.Native.Nat.{_^_, _<_}
 use native.Mathlib.Omega.{arith}
 use borrow.Author.Needs.{needs}
-use Rattle.account.specs.Running.{RunningMoves, runningMoved}
+use Rattle.account.specs.Running.{runningMoved}
+use Rattle.account.specs.Room.{RunningMoves}
 use Rattle.account.proofs.running.Running.changed.Statement.{statement}
 use Rattle.account.proofs.running.Running.changed.Tie as tie
 
