@@ -105,7 +105,7 @@ pub fn spelled(form: Form, number: u64) -> String {
     }
 }
 
-/// What stands in a line, and what is expected there.
+/// What stands in a line, and what would be right there.
 #[derive(Debug, PartialEq, Eq)]
 pub struct Wrong {
     found: String,
@@ -114,7 +114,7 @@ pub struct Wrong {
 
 impl fmt::Display for Wrong {
     fn fmt(&self, text: &mut fmt::Formatter) -> fmt::Result {
-        write!(text, "{}, where {}", self.found, self.right)
+        write!(text, "{}: {}", self.found, self.right)
     }
 }
 
@@ -161,14 +161,18 @@ fn recorded<'a>(
                     Some(Part::Word(word)) => Some(*word),
                     _ => None,
                 };
-                while field.times != Times::Once && words.peek().copied() != end {
+                let more = |next: Option<&&str>| next.is_some() && next.copied() != end;
+                while field.times != Times::Once && more(words.peek()) {
                     values[place].push(number(row, field, before, words.next())?);
                 }
             }
         }
     }
     match words.next() {
-        Some(more) => Err(wrong(Some(more), format!("the line ends: {}", row.text))),
+        Some(more) => Err(wrong(
+            Some(more),
+            format!("the line should end here ({})", row.text),
+        )),
         None => counted(row, values),
     }
 }
@@ -177,7 +181,10 @@ fn expect(row: &Row, word: &str, found: Option<&str>) -> Result<(), Wrong> {
     if found == Some(word) {
         return Ok(());
     }
-    Err(wrong(found, format!("`{word}` stands: {}", row.text)))
+    Err(wrong(
+        found,
+        format!("`{word}` should stand here ({})", row.text),
+    ))
 }
 
 fn number(row: &Row, field: &Field, before: &str, found: Option<&str>) -> Result<u64, Wrong> {
@@ -192,7 +199,7 @@ fn number(row: &Row, field: &Field, before: &str, found: Option<&str>) -> Result
     number.ok_or_else(|| {
         wrong(
             found,
-            format!("{} stands: {}", sort(field, before), row.text),
+            format!("{} ({})", should_be(field, before), row.text),
         )
     })
 }
@@ -203,26 +210,24 @@ fn coded(words: &[&str], text: &str) -> Option<u64> {
 }
 
 /// What a field takes, in words.
-fn sort(field: &Field, before: &str) -> String {
-    let most = spelled_most(field);
+fn should_be(field: &Field, before: &str) -> String {
+    let yuan = |places| format!("yuan with at most {places} places");
     let sort = match field.form {
-        Form::Word(words) => return format!("one of {}", words.join(" ")),
-        Form::Whole => format!("a whole number up to {most}"),
-        Form::Price => format!("yuan with at most {} places up to {most}", decimal::PRICE),
-        Form::Money => format!("yuan with at most {} places up to {most}", decimal::MONEY),
+        Form::Word(words) => return format!("{} is one of {}", field.name, words.join(" ")),
+        Form::Whole => "a whole number".to_string(),
+        Form::Price => yuan(decimal::PRICE),
+        Form::Money => yuan(decimal::MONEY),
     };
-    if before.is_empty() {
-        sort
-    } else {
-        format!("`{before}` and {sort}")
-    }
-}
-
-fn spelled_most(field: &Field) -> String {
-    match field.form {
-        Form::Word(_) => String::new(),
-        form => spelled(form, field.most()),
-    }
+    let before = match before {
+        "" => String::new(),
+        sign => format!("`{sign}` and "),
+    };
+    let most = spelled(field.form, field.most());
+    let each = match field.times {
+        Times::Once => "",
+        Times::Counted(_) => "each of ",
+    };
+    format!("{each}{} is {before}{sort}, up to {most}", field.name)
 }
 
 /// The record, once what the line does not spell is counted.
@@ -233,7 +238,7 @@ fn counted(row: &Row, mut values: Values) -> Result<Vec<u8>, Wrong> {
             let range = row.fields[place].measure().map(|measure| measure.range());
             if let Some(range) = range.filter(|range| !(range.0..=range.1).contains(&count)) {
                 let found = format!("{count} {}", field.name);
-                let right = format!("{} to {} may stand", range.0, range.1);
+                let right = format!("there are {} to {}", range.0, range.1);
                 return Err(Wrong { found, right });
             }
             values[place] = vec![count];
@@ -251,7 +256,7 @@ fn raw<'a>(words: impl Iterator<Item = &'a str>) -> Result<Vec<u8>, Wrong> {
                 bytes.extend(digits.chunks(2).map(|pair| (16 * pair[0] + pair[1]) as u8));
             }
             _ => {
-                let right = "bytes stand, two hexadecimal digits each".to_string();
+                let right = "bytes are two hexadecimal digits each".to_string();
                 return Err(wrong(Some(word), right));
             }
         }
