@@ -1,7 +1,8 @@
 //! The list of records, as people read it: a table of text, and one for documents.
 
-use super::line::{HEAD, RAW};
-use super::table::{Field, Form, Row, Times, ROWS};
+use super::line::{spelled, HEAD, RAW};
+use super::table::{Field, Form, Row, Times, Within, ROWS};
+use native::terms::{Measure, Range};
 
 /// For the terminal: each record's line, its kind and length, its bytes.
 pub fn text() -> String {
@@ -56,18 +57,33 @@ fn length(row: &Row) -> String {
     length
 }
 
+/// Its name, its bytes, and what its number may be.
 fn field_words(row: &Row, field: &Field) -> String {
     let times = match field.times {
         Times::Once => String::new(),
         Times::Counted(place) => format!("{} ", row.fields[place].name),
     };
-    let codes = match field.form {
-        Form::Word(words) => {
-            let coded = (1..).zip(words.iter());
-            let coded: Vec<String> = coded.map(|(code, word)| format!("{code} {word}")).collect();
-            format!(" ({})", coded.join(", "))
-        }
-        _ => String::new(),
+    let may_be = may_be(field).map_or(String::new(), |words| format!(" ({words})"));
+    format!("{times}{} {}{may_be}", field.name, field.width)
+}
+
+fn may_be(field: &Field) -> Option<String> {
+    if let Form::Word(words) = field.form {
+        let coded = (1..).zip(words.iter());
+        let coded = coded.map(|(code, word)| format!("{code} {word}"));
+        return Some(coded.collect::<Vec<_>>().join(", "));
+    }
+    let range = |measure: Measure| {
+        let Range(least, most) = measure.range();
+        let [least, most] = [least, most].map(|number| spelled(field.form, number));
+        format!("{least} to {most}")
     };
-    format!("{times}{} {}{codes}", field.name, field.width)
+    match field.within {
+        Within::Anything => None,
+        Within::Range(measure) => Some(range(measure)),
+        Within::Unit => Some(format!("{}, a multiple of 100", range(Measure::Unit))),
+        Within::Contract | Within::Underlying => Some("in the tables".to_string()),
+        Within::AllContracts => Some("as many as there are contracts".to_string()),
+        Within::AllUnderlyings => Some("as many as there are underlyings".to_string()),
+    }
 }
