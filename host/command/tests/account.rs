@@ -10,6 +10,8 @@ mod json;
 mod largest;
 #[path = "account/second.rs"]
 mod second;
+#[path = "account/varied.rs"]
+mod varied;
 
 use native::desk::{run_on, Run};
 use native::set_up::Book;

@@ -20,7 +20,7 @@ fn hold(name: &str, text: &str) {
     assert_eq!(text, expected, "{name}");
 }
 
-fn told(name: &str, bytes: &[u8], records: usize) {
+pub fn told(name: &str, bytes: &[u8], records: usize) {
     let run = after(bytes, records);
     assert!(run.answered == records, "{name} has so many records");
     let view = view(&run.book);

@@ -36,7 +36,7 @@ fn random_books() {
 
 /// What the views had to tell.
 #[derive(Default)]
-struct Met {
+pub struct Met {
     views: usize,
     kinds: BTreeSet<&'static str>,
     told: [usize; 7],
@@ -72,7 +72,7 @@ impl Met {
 }
 
 /// Both workings go on record by record; the views are compared after each of the first, and then after each tenth.
-fn walk(bytes: &[u8], met: &mut Met) {
+pub fn walk(bytes: &[u8], met: &mut Met) {
     let (mut proved, mut plain) = (native::set_up::Book::new(), Book::new());
     let (mut place, mut records) = (0, 0);
     while let Ok((entry, length)) = read(bytes, place) {
