@@ -1,11 +1,12 @@
 //! All that is told of a book, as plain numbers and words. Prices are in 0.0001 yuan, money in fen. What is said of money and units is
 //! taken from the proved source or asked of it.
 
+use crate::records::table::{word_of, CLASSES, ORDER_KINDS, RIGHTS};
 use native::account::{Account as Kept, Resting, Tables};
 use native::money::{available, hold_one, margin_one};
 use native::resting::kind_of;
 use native::set_up::{Book, Stage};
-use native::terms::{Class, OrderKind, Right};
+use native::terms::OrderKind;
 
 #[derive(Clone, Debug, PartialEq, Eq)]
 pub struct View {
@@ -131,10 +132,7 @@ fn underlying(tables: &Tables, kept: Option<&Kept>, u: usize) -> Underlying {
     let row = tables.underlyings[u];
     Underlying {
         number: u as u16,
-        class: match row.class {
-            Class::Stock => "stock",
-            Class::Fund => "fund",
-        },
+        class: word_of(CLASSES, row.class.code()),
         close: row.close,
         rights: row.rights,
         total: row.total,
@@ -159,10 +157,7 @@ fn contract(tables: &Tables, c: usize) -> Contract {
     let row = tables.contracts[c];
     Contract {
         number: c as u16,
-        right: match row.right {
-            Right::Call => "call",
-            Right::Put => "put",
-        },
+        right: word_of(RIGHTS, row.right.code()),
         underlying: row.underlying,
         strike: row.strike,
         unit: row.unit,
@@ -219,7 +214,7 @@ fn order(tables: &Tables, resting: &Resting) -> Order {
     let on = tables.underlyings[usize::from(row.underlying)];
     Order {
         number: resting.number,
-        kind: kind_in_words(kind),
+        kind: word_of(ORDER_KINDS, kind.code()),
         contract: contract(tables, c),
         left: resting.left.0,
         price: resting.price,
@@ -228,16 +223,5 @@ fn order(tables: &Tables, resting: &Resting) -> Order {
             OrderKind::CoveredOpen => resting.left.units(row.unit).0,
             _ => 0,
         },
-    }
-}
-
-fn kind_in_words(kind: OrderKind) -> &'static str {
-    match kind {
-        OrderKind::BuyOpen => "buy-open",
-        OrderKind::SellClose => "sell-close",
-        OrderKind::SellOpen => "sell-open",
-        OrderKind::BuyClose => "buy-close",
-        OrderKind::CoveredOpen => "covered-open",
-        OrderKind::CoveredClose => "covered-close",
     }
 }

@@ -1,7 +1,7 @@
 //! Which values of a record are outside their ranges, or name nothing in the tables.
 
 use crate::records::line::{spelled, Values};
-use crate::records::table::{Field, Row, Times, Within, ORDER_KINDS};
+use crate::records::table::{word_of, Field, Row, Times, Within, ORDER_KINDS};
 use native::account::Tables;
 use native::entries::Entry;
 use native::set_up::Book;
@@ -91,7 +91,7 @@ fn covered_put(tables: &Tables, entry: Entry) -> Option<String> {
         _ => return None,
     };
     let contract = tables.contracts[..tables.n].get(usize::from(order.contract))?;
-    let kind = ORDER_KINDS[usize::from(order.kind.code()) - 1];
+    let kind = word_of(ORDER_KINDS, order.kind.code());
     match (order.kind.moves(), contract.right) {
         (Side::Covered, Right::Put) => Some(format!(
             "{kind} is for calls, and contract {} is a put",

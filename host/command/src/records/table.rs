@@ -26,8 +26,7 @@ pub enum Form {
     Whole,
     Price,
     Money,
-    /// Codes from 1 on, as words.
-    Word(&'static [&'static str]),
+    Word(Words),
 }
 
 /// What the field's number has to be where its record is booked.
@@ -73,7 +72,7 @@ const fn money(name: &'static str, measure: Measure) -> Field {
     field(name, 8, Form::Money, Within::Range(measure))
 }
 
-const fn word(name: &'static str, words: &'static [&'static str]) -> Field {
+const fn word(name: &'static str, words: Words) -> Field {
     field(name, 2, Form::Word(words), Within::Anything)
 }
 
@@ -84,7 +83,14 @@ const fn prices(name: &'static str, measure: Measure, count: usize) -> Field {
     }
 }
 
-pub const ORDER_KINDS: &[&str] = &[
+/// Words of codes, from 1 on.
+pub type Words = &'static [&'static str];
+
+pub const CLASSES: Words = &["stock", "fund"];
+
+pub const RIGHTS: Words = &["call", "put"];
+
+pub const ORDER_KINDS: Words = &[
     "buy-open",
     "sell-close",
     "sell-open",
@@ -110,7 +116,7 @@ pub const ROWS: &[Row] = &[
         about:
             "an underlying: its prior close and its three limits; it takes the next number from 0",
         fields: &[
-            word("class", &["stock", "fund"]),
+            word("class", CLASSES),
             CLOSE,
             whole("rights", 2, LIMIT),
             whole("total", 2, LIMIT),
@@ -123,7 +129,7 @@ pub const ROWS: &[Row] = &[
         about: "a contract on an underlying; it takes the next number from 0",
         fields: &[
             UNDERLYING,
-            word("right", &["call", "put"]),
+            word("right", RIGHTS),
             price("strike", Measure::Price),
             whole("unit", 4, Within::Unit),
             price("settlement", Measure::Settlement),
@@ -207,6 +213,11 @@ pub const ROWS: &[Row] = &[
         ],
     },
 ];
+
+/// The word of a listed code.
+pub fn word_of(words: Words, code: u16) -> &'static str {
+    words[usize::from(code) - 1]
+}
 
 pub fn row(kind: u16) -> Option<&'static Row> {
     ROWS.iter().find(|row| row.kind == kind)
