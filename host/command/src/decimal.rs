@@ -27,6 +27,12 @@ pub fn shown(value: impl Into<i128>, places: usize) -> String {
     format!("{sign}{whole}.{part:0places$}")
 }
 
+/// So many of something that takes an s in the plural.
+pub fn counted(count: u64, what: &str) -> String {
+    let more = if count == 1 { "" } else { "s" };
+    format!("{count} {what}{more}")
+}
+
 /// The number that the text spells in units of the last place: digits, and a point with at most so many digits behind it.
 pub fn read(text: &str, places: usize) -> Option<u64> {
     let (whole, part) = match text.split_once('.') {

@@ -3,7 +3,7 @@
 mod outside;
 mod unread;
 
-use crate::decimal::{price, yuan};
+use crate::decimal::{counted, price, yuan};
 use crate::feed::Piece;
 use crate::records::line::values;
 use crate::records::table::{row, Row};
@@ -32,7 +32,7 @@ pub fn figures(book: &Book, piece: &Piece, refusal: u8) -> String {
 
 /// Where such a record stands, and where the book is.
 fn place(book: &Book, row: &Row) -> String {
-    let (m, n) = (book.tables.m, book.tables.n);
+    let (m, n) = (book.tables.m as u64, book.tables.n as u64);
     let where_it_stands = match row.kind {
         16 => "comes before the first contract",
         17 => "comes before the opening",
@@ -47,11 +47,6 @@ fn place(book: &Book, row: &Row) -> String {
         }
     };
     format!("{} {where_it_stands}; the book {stage}", row.word())
-}
-
-fn counted(count: usize, what: &str) -> String {
-    let more = if count == 1 { "" } else { "s" };
-    format!("{count} {what}{more}")
 }
 
 fn judged(book: &Book, entry: Entry, refusal: u8) -> String {

@@ -1,7 +1,7 @@
 //! The verb `run`: a line for each record, in words.
 
 use crate::arguments::Asked;
-use crate::decimal::yuan;
+use crate::decimal::{counted, yuan};
 use crate::desk::{Answer, Desk};
 use crate::feed::{Feed, Next, Piece, Taken};
 use crate::input::Input;
@@ -20,8 +20,6 @@ const MOST_FIGURES: usize = 4;
 /// Bytes that are told of a record that can't be read.
 const MOST_BYTES: usize = 6;
 
-pub const BY_SOURCE: &str = "answered by the proved source, compiled by rustc";
-
 pub fn run(asked: &Asked, output: &mut Output) -> Outcome {
     let manner = asked.one_of(&["--refused", "--lines", "--quiet"])?;
     let mut feed = opened(asked)?;
@@ -35,8 +33,7 @@ pub fn run(asked: &Asked, output: &mut Output) -> Outcome {
     if manner == Some("--quiet") {
         output.line(&run.summary())?;
     } else {
-        output.flush()?;
-        say(&format!("{}; {BY_SOURCE}", run.summary()));
+        run.tell(output)?;
     }
     Ok(run.status)
 }
@@ -111,6 +108,14 @@ impl Run {
         answer
     }
 
+    /// Behind all that is printed, for the person at the desk: what the run came to, and who has answered.
+    pub fn tell(&self, output: &mut Output) -> Result<(), Trouble> {
+        output.flush()?;
+        let by = "answered by the proved source, compiled by rustc";
+        say(&format!("{}; {by}", self.summary()));
+        Ok(())
+    }
+
     fn summary(&self) -> String {
         let (records, accepted) = (self.desk.records, self.accepted);
         let read = records - u64::from(self.stopped.is_some());
@@ -120,7 +125,8 @@ impl Run {
             None => String::new(),
         };
         let available = yuan(self.available);
-        format!("{read} records, {accepted} accepted, {refused} refused{stopped}; available {available}")
+        let read = counted(read, "record");
+        format!("{read}, {accepted} accepted, {refused} refused{stopped}; available {available}")
     }
 }
 

@@ -241,5 +241,6 @@ fn shown_account(asked: &Asked, output: &mut Output) -> Outcome {
         Some(_) => account::json(&view),
         None => account::table(&view),
     })?;
+    run.tell(output)?;
     Ok(run.status)
 }
