@@ -1,0 +1,82 @@
+# The launcher's side of a build: what has to be there for it, and that nothing of it is left behind. Sourced by the launcher.
+. "$root/host/launch/cargo.sh"
+
+# named THING: as people call it.
+named() {
+    case $1 in command) echo "the command" ;; *) echo "the proved program $1" ;; esac
+}
+
+# can_build THING: refuses what would fail, before anything is built.
+can_build() {
+    why=$(sums_of "$1" 2>&1 >/dev/null) || refuse "the sources can't be read: $(printf '%s\n' "$why" | head -n 1)"
+    for tool in flock setsid; do
+        command -v "$tool" >/dev/null || refuse "there is no $tool here, which a build needs (Debian: util-linux)"
+    done
+    if [ "$1" = command ]; then
+        can_get_cargo
+    else
+        command -v rt >/dev/null || refuse "there is no rt here, the Rattle toolchain, which proves and builds the program $1"
+        why=$(sh "$root/host/launch/start.sh" 2>&1 >/dev/null) || refuse "$why"
+        can_write "$1" "$root/target" "$root/target/rlib" "$root/target/stamp" "$root/target/log" "$root/target/bin"
+    fi
+    can_write "$1" "$store" "$store/$1" "$store/command.lock" "$store/proofs.lock"
+    probe=$(mktemp -d 2>/dev/null) || refuse "no temporary folder can be made in ${TMPDIR:-/tmp}, and $(named "$1") is not built"
+    rmdir "$probe"
+}
+
+# can_write THING PATHS..: each that is there, or else what it would be made in.
+can_write() {
+    thing=$1
+    shift
+    for path; do
+        if [ ! -e "$path" ]; then path=${path%/*}; fi
+        if [ -e "$path" ] && [ ! -w "$path" ]; then refuse "$path can't be written, and $(named "$thing") is not built"; fi
+    done
+}
+
+# build THING: in a session of its own, so that a signal for us does not hit it in the middle and one from us reaches all of it.
+build() {
+    scratch='' status=0
+    trap 'stop HUP 129' HUP
+    trap 'stop INT 130' INT
+    trap 'stop TERM 143' TERM
+    scratch=$(mktemp -d)
+    # rt runs a program as nobody, below this folder.
+    chmod 711 "$scratch"
+    TMPDIR=$scratch setsid sh "$root/host/launch/build.sh" "$root" "$1" </dev/null >&2 &
+    wait "$!" || status=$?
+    end_build
+    trap - HUP INT TERM
+    case $status in
+    0) ;;
+    2) exit 2 ;;
+    *) refuse "building $(named "$1") ended with status $status" ;;
+    esac
+}
+
+# end_build: all processes of the build are gone when it is over, however it ended.
+end_build() {
+    group=${!:-}
+    if [ -n "$group" ]; then
+        # A build that has just been started is no group yet.
+        kill -s TERM -- "-$group" 2>/dev/null || kill -s TERM "$group" 2>/dev/null || :
+        tries=40
+        while kill -s 0 -- "-$group" 2>/dev/null || kill -s 0 "$group" 2>/dev/null; do
+            [ "$tries" -gt 0 ] || kill -s KILL -- "-$group" "$group" 2>/dev/null || :
+            [ "$tries" -gt -20 ] || break
+            tries=$((tries - 1))
+            sleep 0.05
+        done
+    fi
+    [ -z "$scratch" ] || rm -rf "$scratch"
+}
+
+# stop SIGNAL STATUS: dies of the signal, as a caller in a loop has to see; a shell reports STATUS for it.
+stop() {
+    trap '' HUP INT TERM
+    end_build
+    say "stopped; the next use goes on from here"
+    trap - "$1"
+    kill -s "$1" $$
+    exit "$2"
+}
