@@ -36,7 +36,7 @@ can_write() {
 
 # build THING: in a session of its own, so that a signal for us does not hit it in the middle and one from us reaches all of it.
 build() {
-    scratch='' status=0
+    scratch='' earlier=${!:-}
     trap 'stop HUP 129' HUP
     trap 'stop INT 130' INT
     trap 'stop TERM 143' TERM
@@ -44,39 +44,39 @@ build() {
     # rt runs a program as nobody, below this folder.
     chmod 711 "$scratch"
     TMPDIR=$scratch setsid sh "$root/host/launch/build.sh" "$root" "$1" </dev/null >&2 &
-    wait "$!" || status=$?
-    end_build
+    ended=0
+    wait "$!" || ended=$?
+    earlier=$!
+    rm -rf "$scratch"
     trap - HUP INT TERM
-    case $status in
+    case $ended in
     0) ;;
     2) exit 2 ;;
-    *) refuse "building $(named "$1") ended with status $status" ;;
+    *) refuse "building $(named "$1") ended with status $ended" ;;
     esac
-}
-
-# end_build: all processes of the build are gone when it is over, however it ended.
-end_build() {
-    group=${!:-}
-    if [ -n "$group" ]; then
-        # A build that has just been started is no group yet.
-        kill -s TERM -- "-$group" 2>/dev/null || kill -s TERM "$group" 2>/dev/null || :
-        tries=40
-        while kill -s 0 -- "-$group" 2>/dev/null || kill -s 0 "$group" 2>/dev/null; do
-            [ "$tries" -gt 0 ] || kill -s KILL -- "-$group" "$group" 2>/dev/null || :
-            [ "$tries" -gt -20 ] || break
-            tries=$((tries - 1))
-            sleep 0.05
-        done
-    fi
-    [ -z "$scratch" ] || rm -rf "$scratch"
 }
 
 # stop SIGNAL STATUS: dies of the signal, as a caller in a loop has to see; a shell reports STATUS for it.
 stop() {
     trap '' HUP INT TERM
-    end_build
+    # A number that was waited for may be another process's by now.
+    [ "${!:-}" = "$earlier" ] || end_group "$!"
+    [ -z "$scratch" ] || rm -rf "$scratch"
+    # Behind a bar.
+    [ ! -t 2 ] || echo >&2
     say "stopped; the next use goes on from here"
     trap - "$1"
     kill -s "$1" $$
     exit "$2"
+}
+
+# end_group NUMBER: until no process of it is left. One that was started just now is no group yet.
+end_group() {
+    kill -s TERM -- "-$1" 2>/dev/null || kill -s TERM "$1" 2>/dev/null || :
+    tries=60
+    while [ "$tries" -gt 0 ] && { kill -s 0 -- "-$1" || kill -s 0 "$1"; } 2>/dev/null; do
+        [ "$tries" -gt 20 ] || kill -s KILL -- "-$1" "$1" 2>/dev/null || :
+        tries=$((tries - 1))
+        sleep 0.05
+    done
 }
