@@ -20,8 +20,6 @@ can_build() {
         can_write "$1" "$root/target" "$root/target/rlib" "$root/target/stamp" "$root/target/log" "$root/target/bin"
     fi
     can_write "$1" "$store" "$store/$1" "$store/command.lock" "$store/proofs.lock"
-    probe=$(mktemp -d 2>/dev/null) || refuse "no temporary folder can be made in ${TMPDIR:-/tmp}, and $(named "$1") is not built"
-    rmdir "$probe"
 }
 
 # can_write THING PATHS..: each that is there, or else what it would be made in.
@@ -34,21 +32,28 @@ can_write() {
     done
 }
 
-# build THING: in a session of its own, so that a signal for us does not hit it in the middle and one from us reaches all of it.
-build() {
+# build_all THINGS..: each in turn, where all of them can be built.
+build_all() {
     scratch='' earlier=${!:-}
+    trap 'rm -rf "$scratch"' EXIT
     trap 'stop HUP 129' HUP
     trap 'stop INT 130' INT
     trap 'stop TERM 143' TERM
-    scratch=$(mktemp -d)
+    scratch=$(mktemp -d 2>/dev/null) || refuse "no temporary folder can be made in ${TMPDIR:-/tmp}, and $(named "$1") is not built"
     # rt runs a program as nobody, below this folder.
     chmod 711 "$scratch"
-    TMPDIR=$scratch setsid sh "$root/host/launch/build.sh" "$root" "$1" </dev/null >&2 &
+    for thing; do can_build "$thing"; done
+    for thing; do build "$thing"; done
+    rm -rf "$scratch"
+    trap - EXIT HUP INT TERM
+}
+
+# build THING: in a session of its own, so that a signal for us does not hit it in the middle and one from us reaches all of it.
+build() {
     ended=0
+    TMPDIR=$scratch setsid sh "$root/host/launch/build.sh" "$root" "$1" </dev/null >&2 &
     wait "$!" || ended=$?
     earlier=$!
-    rm -rf "$scratch"
-    trap - HUP INT TERM
     case $ended in
     0) ;;
     2) exit 2 ;;
@@ -61,11 +66,11 @@ stop() {
     trap '' HUP INT TERM
     # A number that was waited for may be another process's by now.
     [ "${!:-}" = "$earlier" ] || end_group "$!"
-    [ -z "$scratch" ] || rm -rf "$scratch"
+    rm -rf "$scratch"
     # Behind a bar.
     [ ! -t 2 ] || echo >&2
     say "stopped; the next use goes on from here"
-    trap - "$1"
+    trap - EXIT "$1"
     kill -s "$1" $$
     exit "$2"
 }
@@ -73,10 +78,18 @@ stop() {
 # end_group NUMBER: until no process of it is left. One that was started just now is no group yet.
 end_group() {
     kill -s TERM -- "-$1" 2>/dev/null || kill -s TERM "$1" 2>/dev/null || :
-    tries=60
-    while [ "$tries" -gt 0 ] && { kill -s 0 -- "-$1" || kill -s 0 "$1"; } 2>/dev/null; do
-        [ "$tries" -gt 20 ] || kill -s KILL -- "-$1" "$1" 2>/dev/null || :
+    tries=100
+    while [ "$tries" -gt 0 ] && lives "$1"; do
+        [ "$tries" -gt 60 ] || kill -s KILL -- "-$1" "$1" 2>/dev/null || :
         tries=$((tries - 1))
         sleep 0.05
     done
+}
+
+# lives NUMBER: whether a process of the group does. One that has ended and is not yet reaped, for which init may take its time, does not.
+lives() {
+    cat /proc/[0-9]*/stat 2>/dev/null | awk -v group="$1" '
+        { number = $1; sub(/^.*\) /, "") }
+        (number == group || $3 == group) && $1 != "Z" { found = 1 }
+        END { exit !found }'
 }

@@ -2,7 +2,7 @@
 
 refusals() {
     toolbox use sh readlink uname find sort sha256sum awk
-    toolbox build sh readlink uname find sort sha256sum awk flock setsid mktemp rmdir rm mkdir chmod date cat mv ls tail head xargs id cc ld
+    toolbox build sh readlink uname find sort sha256sum awk flock setsid mktemp rm mkdir chmod date cat mv ls tail head xargs id
     prints_as_first env PATH="$place/use"
     closed_ones
     missing_tools
@@ -28,7 +28,11 @@ missing_tools() {
     toolbox bare sh readlink uname
     refuses "there is no sha256sum here, which tells whether the sources have changed (Debian: coreutils)" \
         env PATH="$place/bare" "$small/ravundesk" run
-    refuses "there is no flock here, which a build needs (Debian: util-linux)" env PATH="$place/use" "$small/ravundesk" run
+    for tool in flock setsid; do
+        mv "$place/build/$tool" "$place/away"
+        refuses "there is no $tool here, which a build needs (Debian: util-linux)" env PATH="$place/build" "$small/ravundesk" run
+        mv "$place/away" "$place/build/$tool"
+    done
     refuses "there is no cargo here, which builds the command: install Rust (on Debian: apt-get install cargo)" \
         env PATH="$place/build" "$small/ravundesk" run
     ln -s "$(command -v cargo)" "$place/build/cargo"
