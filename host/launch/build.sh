@@ -8,6 +8,8 @@ root=$1 thing=$2
 . "$root/host/launch/cargo.sh"
 . "$root/host/launch/progress.sh"
 . "$root/host/launch/make.sh"
+# Where nobody reads what is said any more, the build goes on all the same.
+trap : PIPE
 # A hook of git would have its own folder taken for ours.
 unset GIT_DIR GIT_WORK_TREE GIT_INDEX_FILE
 
@@ -38,7 +40,7 @@ make_and_install() {
     take_fingerprint "$thing"
     if [ "$place" = "$store/$thing/$fingerprint" ]; then
         install "$new"
-        say "$what is $made and installed, $(as_time $(($(date +%s) - began)))"
+        say "$result and installed, $(as_time $(($(date +%s) - began)))"
     else
         rm -rf "$new"
         say "the sources changed while $what was built, so it is built again"

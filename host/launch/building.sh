@@ -38,14 +38,17 @@ build_all() {
     trap 'rm -rf "$scratch"' EXIT
     trap 'stop HUP 129' HUP
     trap 'stop INT 130' INT
+    trap 'stop QUIT 131' QUIT
     trap 'stop TERM 143' TERM
+    # Where nobody reads what is said any more, the build goes on all the same.
+    trap : PIPE
     scratch=$(mktemp -d 2>/dev/null) || refuse "no temporary folder can be made in ${TMPDIR:-/tmp}, and $(named "$1") is not built"
     # rt runs a program as nobody, below this folder.
     chmod 711 "$scratch"
     for thing; do can_build "$thing"; done
     for thing; do build "$thing"; done
     rm -rf "$scratch"
-    trap - EXIT HUP INT TERM
+    trap - EXIT HUP INT QUIT TERM PIPE
 }
 
 # build THING: in a session of its own, so that a signal for us does not hit it in the middle and one from us reaches all of it.
@@ -63,7 +66,7 @@ build() {
 
 # stop SIGNAL STATUS: dies of the signal, as a caller in a loop has to see; a shell reports STATUS for it.
 stop() {
-    trap '' HUP INT TERM
+    trap '' HUP INT QUIT TERM
     # A number that was waited for may be another process's by now.
     [ "${!:-}" = "$earlier" ] || end_group "$!"
     rm -rf "$scratch"

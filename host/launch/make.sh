@@ -14,7 +14,6 @@ commit_line() {
 
 # make_command FOLDER: from nothing each time, since cargo goes by the times of files, and a source that was put back has an old one.
 make_command() {
-    made=built
     get_cargo
     say "the command is built first, which takes some seconds"
     (
@@ -27,7 +26,8 @@ make_command() {
     }
     mv "$1/cargo/release/ravundesk" "$1/ravundesk"
     rm -rf "$1/cargo"
-    { commit_line && rustc --version; } >"$1/built"
+    { commit_line && { rustc --version 2>/dev/null || echo "rustc unknown"; }; } >"$1/built"
+    result="the command is built"
 }
 
 # mend CRATES..: rt can't go on from a library whose writing was cut off, and does not miss one that it has a stamp for. What has no stamp
@@ -41,7 +41,6 @@ mend() {
 
 # make_program NAME FOLDER
 make_program() {
-    made=proved
     crates=$(crates_of "$1")
     mend $crates
     total=$(printf '%s\n' "$crates" | wc -l)
@@ -61,4 +60,5 @@ make_program() {
     cp "$root/target/bin/$1" "$2/$1"
     sh "$root/host/launch/start.sh" >"$2/start"
     { commit_line && echo "toolchain $(rt version)"; } >"$2/built"
+    result="$1 is proved"
 }

@@ -16,7 +16,7 @@ two_first_uses() {
     said 'ravundesk: the proved program book is being built by another use, and this one waits for it' 1
     said 'ravundesk: first proved in [0-9]* s; 1 of 3, 2 left' 1
     said 'ravundesk: book proved in [0-9]* s; 3 of 3, 0 left' 1
-    said 'ravundesk: the proved program book is proved and installed, [0-9]* s' 1
+    said 'ravundesk: book is proved and installed, [0-9]* s' 1
     [ "$(wc -l <"$place/err")" = 9 ] || fail "other lines said by two first uses"
     [ "$(sed -n 1,3p "$place/out")" = '["book", "a", "b  c"]
 proved
@@ -46,25 +46,43 @@ changes() {
     cp -a "$place/main.rt" "$small/crates/book/src/main.rt"
     prints_as_first
     command_changes
+    other_verbs
     no_process_in "$small"
 }
 
 # A change to the command alone proves nothing again. No more than the last two stay installed.
 command_changes() {
     cp -a "$small/host/command/src/main.rs" "$place/main.rs"
-    for word in one two; do
-        sed "s/println!(\"/&$word /" "$place/main.rs" >"$small/host/command/src/main.rs"
-        answers "$small/ravundesk" book
-        said 'ravundesk: ' 2
-        [ "$(head -n 1 "$place/out")" = "$word [\"book\"]" ] || fail "the change to the command is not there"
-    done
+    change_command one
+    answers "$small/ravundesk" book
+    said 'ravundesk: ' 2
+    [ "$(head -n 1 "$place/out")" = 'one ["book"]' ] || fail "the change to the command is not there"
+    # Said to nobody, and built and installed all the same.
+    change_command two
+    "$small/ravundesk" book 2>&1 >/dev/null | true
+    silent "$small/ravundesk" book
+    [ "$(head -n 1 "$place/out")" = 'two ["book"]' ] || fail "the second change to the command is not there"
     cp -a "$place/main.rs" "$small/host/command/src/main.rs"
     answers "$small/ravundesk" book a "b  c"
     cmp "$place/out" "$place/first" || fail "the command is not the one that was put back"
     [ "$(ls "$small/.ravundesk/command" | wc -l)" = 2 ] || fail "old commands stay installed"
+}
+
+# change_command WORD: which it prints first.
+change_command() {
+    sed "s/println!(\"/&$1 /" "$place/main.rs" >"$small/host/command/src/main.rs"
+}
+
+# Verbs that need no program, of which one tells of it.
+other_verbs() {
     silent "$small/ravundesk" version
-    said_by_version=$(wc -l <"$place/out")
-    [ "$said_by_version" = 4 ] || fail "version does not see the program that is installed"
+    [ "$(wc -l <"$place/out")" = 4 ] || fail "version does not see the program that is installed"
+    silent "$small/ravundesk" book --help
+    [ "$(wc -l <"$place/out")" = 1 ] || fail "a program is looked for to give help"
     silent "$small/ravundesk"
     [ "$(cat "$place/out")" = '[]' ] || fail "no words are not handed over"
+    mv "$small/.ravundesk/book" "$place/book"
+    silent "$small/ravundesk" version
+    [ "$(wc -l <"$place/out")" = 1 ] || fail "version sees a program that is not installed"
+    mv "$place/book" "$small/.ravundesk/book"
 }

@@ -66,7 +66,7 @@ other_places() {
     refuses "there is no rt here, the Rattle toolchain, which proves and builds the program book" \
         env PATH="$place/build" "$small/ravundesk" book a "b  c"
     answers "$small/ravundesk" book a "b  c"
-    said 'ravundesk: the proved program book is' 2
+    said 'ravundesk: ' 2
     said 'proved in' 0
     prints_as_first
 }

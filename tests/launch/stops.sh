@@ -47,10 +47,29 @@ command_stops() {
         HUP) stopped_by HUP "$begun" 129 ;;
         esac
     done
+    waiting_stops
     rm "$small/slow"
     answers "$small/ravundesk" book a "b  c"
     said 'ravundesk: ' 2
     cmp "$place/out" "$place/first" || fail "other lines after a build that was stopped"
+}
+
+# One that waits for a build is stopped, and the build goes on.
+waiting_stops() {
+    rm -f "$small/slowly"
+    begin run
+    once '[ -e "$small/slowly" ]'
+    first=$begun got=0
+    mv "$place/err" "$place/err.1"
+    begin run
+    once 'grep -q "this one waits for it" "$place/err"'
+    kill -s TERM "$begun"
+    wait "$begun" 2>/dev/null || got=$?
+    [ "$got" = 143 ] || fail "status $got and not 143 of one that waited"
+    kill -s 0 "$first" || fail "a build ended with one that waited for it"
+    mv "$place/err.1" "$place/err"
+    begun=$first
+    stopped_by TERM "$begun" 143
 }
 
 # rt ends in the midst of a library; another that it was replacing is cut off by hand, for which the moment is too short to meet.
