@@ -15,12 +15,12 @@ unset GIT_DIR GIT_WORK_TREE GIT_INDEX_FILE
 
 # One lock for all programs: rt keeps what it has proved in files that two of it would break for each other.
 case $thing in
-command) lock=$store/command.lock what="the command" ;;
-*) lock=$store/proofs.lock what="the proved program $thing" ;;
+command) lock=$store/command.lock what="the command" busy="the command is being built by another use" ;;
+*) lock=$store/proofs.lock what="the proved program $thing" busy="a proof is going on in this tree" ;;
 esac
 
-# install FOLDER: puts it where a use looks, whole. One may stand there that has lost what it needs.
-install() {
+# put_in_place FOLDER: where a use looks, whole. One may stand there that has lost what it needs.
+put_in_place() {
     old=$store/$thing/old
     rm -rf "$old"
     [ ! -e "$place" ] || mv "$place" "$old"
@@ -39,7 +39,7 @@ make_and_install() {
     usable "$thing" "$new" || refuse "$what is built, and can't be run"
     take_fingerprint "$thing"
     if [ "$place" = "$store/$thing/$fingerprint" ]; then
-        install "$new"
+        put_in_place "$new"
         say "$result and installed, $(as_time $(($(date +%s) - began)))"
     else
         rm -rf "$new"
@@ -50,7 +50,7 @@ make_and_install() {
 mkdir -p "$store/$thing"
 exec 9>>"$lock"
 flock -n 9 || {
-    say "$what is being built by another use, and this one waits for it"
+    say "$busy, and this use waits for its end"
     flock 9
 }
 # Closed for all that is started from here, while the shell itself keeps it.

@@ -24,11 +24,11 @@ can_build() {
 
 # can_write THING PATHS..: each that is there, or else what it would be made in.
 can_write() {
-    thing=$1
+    wanted=$(named "$1")
     shift
     for path; do
         if [ ! -e "$path" ]; then path=${path%/*}; fi
-        if [ -e "$path" ] && [ ! -w "$path" ]; then refuse "$path can't be written, and $(named "$thing") is not built"; fi
+        if [ -e "$path" ] && [ ! -w "$path" ]; then refuse "$path can't be written, and $wanted is not built"; fi
     done
 }
 

@@ -18,8 +18,8 @@ make_command() {
     say "the command is built first, which takes some seconds"
     (
         unset CARGO_BUILD_TARGET
-        cd "$root/host"
-        cargo build --offline --release --package ravundesk --target-dir "$1/cargo" >"$TMPDIR/said" 2>&1
+        cd "$root/host" &&
+            cargo build --offline --release --package ravundesk --target-dir "$1/cargo" >"$TMPDIR/said" 2>&1
     ) || {
         cat "$TMPDIR/said" >&2
         refuse "the command can't be built"
@@ -46,6 +46,7 @@ make_program() {
     total=$(printf '%s\n' "$crates" | wc -l)
     say "the proved program $1 is built first, which can take some minutes ($total crates)"
     : >"$TMPDIR/said"
+    rm -f "$TMPDIR/ended"
     (
         cd "$root"
         ended=0
@@ -53,7 +54,7 @@ make_program() {
         echo "$ended" >"$TMPDIR/ended"
     ) &
     follow "$1" "$total"
-    [ "$(cat "$TMPDIR/ended")" = 0 ] || {
+    [ "$(cat "$TMPDIR/ended" 2>/dev/null)" = 0 ] || {
         cat "$TMPDIR/said" >&2
         refuse "the program $1 is not proved, so it is not installed"
     }

@@ -23,11 +23,12 @@ count_line() {
     esac
 }
 
-# follow NAME TOTAL: until rt has ended. Its end is looked for before its lines are read, so that none of them is missed.
+# follow NAME TOTAL: until rt, which was started last, has ended or is gone. That is looked for before its lines are read, so that none of
+# them is missed.
 follow() {
     count=0 part='' over=''
     while [ -z "$over" ]; do
-        [ ! -s "$TMPDIR/ended" ] || over=yes
+        if [ -s "$TMPDIR/ended" ] || ! kill -s 0 "$!" 2>/dev/null; then over=yes; fi
         while IFS= read -r line; do
             count_line "$part$line" "$2"
             part=''

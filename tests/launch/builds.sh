@@ -10,10 +10,10 @@ two_first_uses() {
     [ "$got$other" = 00 ] || fail "status $got and $other of two first uses"
     cmp "$place/out" "$place/out.1" || fail "two first uses print other lines"
     said 'ravundesk: the command is built first, which takes some seconds' 1
-    said 'ravundesk: the command is being built by another use, and this one waits for it' 1
+    said 'ravundesk: the command is being built by another use, and this use waits for its end' 1
     said 'ravundesk: the command is built and installed, [0-9]* s' 1
     said 'ravundesk: the proved program book is built first, which can take some minutes (3 crates)' 1
-    said 'ravundesk: the proved program book is being built by another use, and this one waits for it' 1
+    said 'ravundesk: a proof is going on in this tree, and this use waits for its end' 1
     said 'ravundesk: first proved in [0-9]* s; 1 of 3, 2 left' 1
     said 'ravundesk: book proved in [0-9]* s; 3 of 3, 0 left' 1
     said 'ravundesk: book is proved and installed, [0-9]* s' 1

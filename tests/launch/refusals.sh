@@ -33,7 +33,7 @@ missing_tools() {
         refuses "there is no $tool here, which a build needs (Debian: util-linux)" env PATH="$place/build" "$small/ravundesk" run
         mv "$place/away" "$place/build/$tool"
     done
-    refuses "there is no cargo here, which builds the command: install Rust (on Debian: apt-get install cargo)" \
+    refuses "there is no cargo here, which builds what is in Rust: install it (Debian: cargo)" \
         env PATH="$place/build" "$small/ravundesk" run
     ln -s "$(command -v cargo)" "$place/build/cargo"
     refuses "there is no rt here, the Rattle toolchain, which proves and builds the program book" \

@@ -62,7 +62,7 @@ waiting_stops() {
     first=$begun got=0
     mv "$place/err" "$place/err.1"
     begin run
-    once 'grep -q "this one waits for it" "$place/err"'
+    once 'grep -q "this use waits" "$place/err"'
     kill -s TERM "$begun"
     wait "$begun" 2>/dev/null || got=$?
     [ "$got" = 143 ] || fail "status $got and not 143 of one that waited"

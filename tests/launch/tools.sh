@@ -54,6 +54,7 @@ toolbox() {
 # no_process_in FOLDER: none runs in it or names it. The name is read from a file, so that the search does not find itself.
 no_process_in() {
     printf '%s' "$1" >"$place/name"
-    found=$({ grep -l -a -F -f "$place/name" /proc/[0-9]*/cmdline; find /proc -maxdepth 2 -path '/proc/[0-9]*/cwd' -lname "$1*"; } 2>/dev/null) || :
+    found=$(grep -l -a -F -f "$place/name" /proc/[0-9]*/cmdline 2>/dev/null) || :
+    found=$found$(find /proc -maxdepth 2 -path '/proc/[0-9]*/cwd' -lname "$1*" 2>/dev/null) || :
     [ -z "$found" ] || fail "left behind: $(for file in $found; do tr '\0' ' ' <"${file%/*}/cmdline"; done 2>/dev/null)"
 }
