@@ -2,8 +2,7 @@
 # fetched: no crate comes from a registry.
 set -eu
 cd "$(dirname "$0")/../host"
-if ! command -v cargo >/dev/null; then
-    apt-get -qq update
-    apt-get -qq install -y cargo >/dev/null
-fi
+. launch/words.sh
+. launch/cargo.sh
+get_cargo
 exec cargo "$@" --profile "${PROFILE:-release}" --offline --quiet
