@@ -96,7 +96,7 @@ call 0 version
 grep -q '^ravundesk [0-9]' out || fail "no version"
 
 # A file whose name begins with a dash or has blanks, from another folder.
-cp "$root/examples/day.book" "-a day.book"
+cp "$root/examples/day.book" "./-a day.book"
 call 1 run --quiet -- "-a day.book"
 prints "10 records, 9 accepted, 1 refused; available 5940.00"
 
@@ -120,7 +120,8 @@ says "$root/examples/day.txt looks like text; \`write\` makes a book of it"
 call 3 book long
 says "long has more than 65536 bytes, and the rest is not read; \`run\` reads it all"
 for i in 1 2 3 4 5 6 7 8; do cat "$root/examples/full.book"; done >eight
-call 1 book eight
+# The last byte that is read lies within a record.
+call 3 book eight
 says "eight has more than 65536 bytes, and the rest is not read; \`run\` reads it all"
 lines=$(wc -l <out)
 call 1 run --lines eight

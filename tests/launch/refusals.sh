@@ -1,7 +1,7 @@
 # What the launcher says where it can't build or hand over: a line, and status 2. Sourced.
 
 refusals() {
-    toolbox use sh readlink uname find sort sha256sum awk
+    toolbox use sh readlink uname find sort sha256sum awk cmp cat
     toolbox build sh readlink uname find sort sha256sum awk flock setsid mktemp rm mkdir chmod date cat mv ls tail head xargs id
     prints_as_first env PATH="$place/use"
     closed_ones

@@ -17,13 +17,13 @@ const MOST_READ: usize = 65_536;
 pub const INSTALLED: &str = "RAVUNDESK_BOOK";
 
 pub fn book(asked: &Asked, output: &mut Output) -> Outcome {
+    let mut input = Input::open(asked.file())?;
     let folder = env::var_os(INSTALLED).map(PathBuf::from);
     let folder = folder.ok_or_else(|| {
         Trouble(
             "the proved program is installed by ./ravundesk, at the root of the tree".to_string(),
         )
     })?;
-    let mut input = Input::open(asked.file())?;
     let book = input.first(MOST_READ + 1)?;
     let name = &input.name;
     if looks_like_text(&book) {
