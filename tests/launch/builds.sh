@@ -77,8 +77,10 @@ change_command() {
 other_verbs() {
     silent "$small/ravundesk" version
     [ "$(wc -l <"$place/out")" = 4 ] || fail "version does not see the program that is installed"
-    silent "$small/ravundesk" book --help
-    [ "$(wc -l <"$place/out")" = 1 ] || fail "a program is looked for to give help"
+    for word in --help --wrong "$place/none" "$place"; do
+        silent "$small/ravundesk" book "$word"
+        [ "$(wc -l <"$place/out")" = 1 ] || fail "a program is looked for, and book $word can only be refused"
+    done
     silent "$small/ravundesk"
     [ "$(cat "$place/out")" = '[]' ] || fail "no words are not handed over"
     mv "$small/.ravundesk/book" "$place/book"
