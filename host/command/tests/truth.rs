@@ -14,6 +14,7 @@ use plain::entry::Entry;
 use plain::record::read;
 use ravundesk::refusals::meaning;
 use std::collections::BTreeMap;
+use std::thread;
 use trials::chance::Chance;
 use truth::{judged, outside, unread};
 
@@ -157,10 +158,16 @@ const FORMS: &[(u8, &str)] = &[
 #[test]
 fn every_figure_of_every_refusal() {
     let books = told_books().into_iter().chain(random_books(211, 500));
-    let books = books.chain((1..=1_500).map(misshapen));
-    let met = books
-        .map(|book| walked(&book))
-        .fold(Met::default(), Met::with);
+    let books: Vec<_> = books.chain((1..=1_500).map(misshapen)).collect();
+    let every_other = |first| {
+        let books = books.iter().skip(first).step_by(2);
+        books.map(walked).fold(Met::default(), Met::with)
+    };
+    let met = thread::scope(|scope| {
+        let odd = scope.spawn(|| every_other(1));
+        let even = every_other(0);
+        even.with(odd.join().expect("those books are right too"))
+    });
     println!("{:#?}", met.0);
     for refusal in (1..=16).chain([19, 20]) {
         let forms = met.0.iter().filter(|((number, _), _)| *number == refusal);
