@@ -90,7 +90,7 @@ fn examples_and_telling_books() {
 
 #[test]
 fn random_ones() {
-    random_books(307, 160).for_each(|book| hold(&book));
+    random_books(307, 120).for_each(|book| hold(&book));
 }
 
 /// Random books that can be read to their ends, one behind the other, and then entries with rising numbers.
@@ -190,7 +190,7 @@ fn in_pieces(words: &[&str], bytes: &[u8], chance: &mut Chance) -> String {
 
 fn short_books() -> impl Iterator<Item = Book> {
     let told = told_books().into_iter().step_by(5);
-    let random = random_books(317, 120);
+    let random = random_books(317, 100);
     told.chain(random).filter(|book| book.bytes.len() < 4_000)
 }
 
@@ -208,7 +208,7 @@ fn in_pieces_through_a_pipe() {
 
 #[test]
 fn as_text() {
-    let books = told_books().into_iter().chain(random_books(337, 150));
+    let books = told_books().into_iter().chain(random_books(337, 100));
     for book in books.filter(|book| book.bytes.len() < 30_000) {
         let _tried = Tried(&book.name, "as text");
         let shown = ravundesk(&["show"], &book.bytes);

@@ -63,6 +63,7 @@ fn walked(book: &common::Book) -> Met {
             Err(refusal) => {
                 let why = line.why.expect("the second working can't read this");
                 assert_eq!(why.refusal, refusal);
+                unread::hold_bytes(&book.bytes, place, line.record);
                 let form = unread::hold(&book.bytes[place..], refusal, why.figures);
                 met.meet(refusal, form);
                 place = book.bytes.len();
@@ -91,9 +92,8 @@ fn hold(second: &Book, entry: &Entry, why: &Why, met: &mut Met) {
 /// Heads whose lengths, kinds, counts and codes are near the edges, and as many bytes behind them as it takes, or a few fewer.
 fn misshapen(number: u64) -> common::Book {
     let mut chance = Chance::new(223, number);
-    let kind = chance.pick(&[
-        1, 3, 5, 5, 6, 7, 8, 8, 8, 8, 8, 9, 16, 16, 17, 17, 18, 11, 256,
-    ]);
+    let any_kind = chance.pick(&[1, 3, 6, 7, 9, 18, 11, 256]);
+    let kind = chance.pick(&[8, 8, 8, 8, 5, 16, 17, any_kind]);
     let n = chance.pick(&[0, 1, 1, 8, 64, 65]);
     let m = chance.pick(&[0, 1, 1, 8, 9]);
     let own = match kind {
@@ -105,12 +105,12 @@ fn misshapen(number: u64) -> common::Book {
         9 => 4,
         _ => 8,
     };
-    let length = own + chance.pick(&[0, 0, 0, 4, 4, 1, 300]);
-    let code = chance.pick(&[0, 1, 2, 3, 7, 256, u16::MAX]);
+    let length = own + chance.pick(&[0, 0, 4, 1]);
+    let code = chance.pick(&[0, 1, 3, 7, 256, u16::MAX]);
     let counts = if kind == 8 { [n, m] } else { [code, code] };
     let fields = [length, kind, counts[0], counts[1], code, code];
     let mut bytes: Vec<u8> = fields.into_iter().flat_map(u16::to_le_bytes).collect();
-    let size = chance.pick(&[own, own, own + 5, own - 1, 7, 7, 3]);
+    let size = chance.pick(&[own, own, own, own + 5, own - 1, 7, 3]);
     bytes.resize(size.into(), 1);
     common::Book::new(format!("misshapen record {number}"), bytes)
 }
@@ -157,8 +157,8 @@ const FORMS: &[(u8, &str)] = &[
 
 #[test]
 fn every_figure_of_every_refusal() {
-    let books = told_books().into_iter().chain(random_books(211, 500));
-    let books: Vec<_> = books.chain((1..=1_500).map(misshapen)).collect();
+    let books = told_books().into_iter().chain(random_books(211, 400));
+    let books: Vec<_> = books.chain((1..=800).map(misshapen)).collect();
     let every_other = |first| {
         let books = books.iter().skip(first).step_by(2);
         books.map(walked).fold(Met::default(), Met::with)

@@ -20,6 +20,19 @@ pub fn hold(bytes: &[u8], refusal: u8, words: &str) -> &'static str {
     }
 }
 
+/// Where the record stands, and up to six of the bytes that it takes to see that it is none.
+pub fn hold_bytes(bytes: &[u8], place: usize, words: &str) {
+    let left = &bytes[place..];
+    let enough = |size: &usize| read(&left[..*size], 0) != Err(1);
+    let seen = (0..left.len()).find(enough).unwrap_or(left.len());
+    let told: String = left[..seen.min(6)]
+        .iter()
+        .map(|byte| format!(" {byte:02x}"))
+        .collect();
+    let more = if 6 < seen { " .." } else { "" };
+    assert_eq!(words, format!("(at byte {place}){told}{more}"));
+}
+
 fn two(bytes: &[u8], at: usize) -> u16 {
     u16::from_le_bytes([bytes[at], bytes[at + 1]])
 }
@@ -49,16 +62,20 @@ fn unknown(bytes: &[u8], words: &str) -> &'static str {
     assert_eq!(figures(kind, ["kind"], 0), [two(bytes, 2).into()]);
     let ranges: Vec<RangeInclusive<u64>> = listed.split(", ").map(range).collect();
     let told = |kind: u16| ranges.iter().any(|range| range.contains(&kind.into()));
-    let known = |kind: u16| read(&[[0, 0], kind.to_le_bytes()].concat(), 0) != Err(2);
+    let known = |kind: u16| read(&head(0, kind), 0) != Err(2);
     assert!(!told(two(bytes, 2)), "{words}");
     assert!((0..=u16::MAX).all(|kind| told(kind) == known(kind)));
     "kind"
 }
 
-/// Whether the documents have a record of the kind that begins with such a head: anything else is refused for its length at once.
-fn fits(kind: u16, length: u64) -> bool {
-    let head = [(length as u16).to_le_bytes(), kind.to_le_bytes()].concat();
-    read(&head, 0) != Err(3)
+fn head(length: u16, kind: u16) -> [u8; 4] {
+    let ([first, second], [third, fourth]) = (length.to_le_bytes(), kind.to_le_bytes());
+    [first, second, third, fourth]
+}
+
+/// A length that no record of the kind has is refused for the head alone.
+fn fits(kind: u16, length: u16) -> bool {
+    read(&head(length, kind), 0) != Err(3)
 }
 
 fn too_long(bytes: &[u8], words: &str) -> &'static str {
@@ -67,13 +84,13 @@ fn too_long(bytes: &[u8], words: &str) -> &'static str {
     let kind = two(bytes, 2);
     assert_eq!(figures(length, ["length"], 0), [two(bytes, 0).into()]);
     assert_eq!(word, word_of(kind));
-    assert!(!fits(kind, two(bytes, 0).into()), "{words}");
+    assert!(!fits(kind, two(bytes, 0)), "{words}");
     let (own, step) = match own.split_once(" in steps of ") {
         Some((own, step)) => (range(own), decimal(step, 0) as u64),
         None => (range(own), 1),
     };
     let told = |length: u64| own.contains(&length) && (length - own.start()) % step == 0;
-    assert!((0..=65_535).all(|length| told(length) == fits(kind, length)));
+    assert!((0..=u16::MAX).all(|length| told(length.into()) == fits(kind, length)));
     if kind == 8 {
         "length of a day end"
     } else {
