@@ -76,10 +76,12 @@ impl Feed {
         };
         if text {
             let begun = first.strip_prefix(MARK).unwrap_or(&first).to_vec();
-            feed.text = Some(Lines {
+            let mut lines = Lines {
                 begun,
                 ..Lines::default()
-            });
+            };
+            lines.take(&feed.input.name, false, &mut feed.held);
+            feed.text = Some(lines);
         } else {
             feed.held = first;
         }
