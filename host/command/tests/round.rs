@@ -31,12 +31,13 @@ fn hold(book: &Book) -> String {
     shown.text().to_string()
 }
 
-/// The same through a file of this name, whose book is shown again.
+/// The same through a file of this name, whose book is shown again; the last line may lack its end.
 fn hold_filed(book: &Book, file: &str) {
     let text = hold(book);
     let place = Path::new(env!("CARGO_TARGET_TMPDIR")).join(file);
     let name = place.to_str().expect("its name is text");
-    let filed = ravundesk(&["write", "--to", name], text.as_bytes());
+    let open_end = text.trim_end_matches('\n').as_bytes();
+    let filed = ravundesk(&["write", "--to", name], open_end);
     assert_eq!((filed.errors.as_str(), filed.status), ("", 0));
     assert!(filed.output.is_empty());
     assert!(fs::read(&place).expect("the book is there") == book.bytes);
@@ -102,7 +103,7 @@ fn any_bytes_at_all() {
     }
 }
 
-/// The row's records with each field at 0, at 1 and at its largest, in all combinations; of a day end those with a figure of each sort.
+/// The row's records with each field at 0, at 1 and at its largest, in all combinations; a day end has one settlement and one close.
 fn edges(row: &Row) -> Vec<Vec<u8>> {
     let mut begun: Vec<Vec<u8>> = vec![Vec::new()];
     for field in row.fields {
@@ -123,7 +124,7 @@ fn longest_day_end() -> Vec<u8> {
     head.into_iter().chain((0..72).flat_map(figure)).collect()
 }
 
-/// All that can be read stand in one book; of the others each stands behind it alone, since nothing is read past it.
+/// All that can be read stand in one book; each of the others is one by itself, since nothing is read past it.
 #[test]
 fn every_field_at_its_edges() {
     let records = ROWS.iter().flat_map(edges).chain([longest_day_end()]);

@@ -168,7 +168,9 @@ fn every_figure_of_every_refusal() {
         let even = every_other(0);
         even.with(odd.join().expect("those books are right too"))
     });
-    println!("{:#?}", met.0);
+    for ((refusal, form), count) in &met.0 {
+        println!("{refusal} {form}: {count}");
+    }
     for refusal in (1..=16).chain([19, 20]) {
         let forms = met.0.iter().filter(|((number, _), _)| *number == refusal);
         let count: usize = forms.map(|(_, count)| count).sum();
