@@ -5,19 +5,26 @@ mod common;
 use common::{random_books, ravundesk, told_books, Book, Tried};
 use plain::record::read;
 use ravundesk::records::table::{Form, Row, ROWS};
+use ravundesk::refusals::meaning;
 use std::fs;
 use std::path::Path;
 use trials::chance::Chance;
 
-fn readable(bytes: &[u8]) -> bool {
-    let mut place = 0;
+/// How many records can be read, and where and why the next one can't.
+fn records(bytes: &[u8]) -> (usize, Option<(usize, u8)>) {
+    let (mut count, mut place) = (0, 0);
     while place < bytes.len() {
         match read(bytes, place) {
             Ok((_, length)) => place += length,
-            Err(_) => return false,
+            Err(refusal) => return (count, Some((place, refusal))),
         }
+        count += 1;
     }
-    true
+    (count, None)
+}
+
+fn readable(bytes: &[u8]) -> bool {
+    records(bytes).1.is_none()
 }
 
 /// Gives the text.
@@ -28,7 +35,27 @@ fn hold(book: &Book) -> String {
     assert!(written.output == book.bytes, "{}", shown.text());
     assert_eq!((written.errors.as_str(), written.status), ("", 0));
     assert_eq!(shown.status, if readable(&book.bytes) { 0 } else { 3 });
+    hold_lines(&book.bytes, shown.text());
     shown.text().to_string()
+}
+
+/// A line for each record; all bytes from the first that is none on are raw.
+fn hold_lines(bytes: &[u8], text: &str) {
+    let (count, stop) = records(bytes);
+    let lines: Vec<&str> = text.lines().collect();
+    let (read, raw) = lines.split_at(count);
+    let is_raw = |line: &&str| line.starts_with("raw ");
+    assert!(!read.iter().any(is_raw), "{text}");
+    match (stop, raw) {
+        (None, []) => {}
+        (Some((place, refusal)), [remark, raw @ ..]) => {
+            let meaning = meaning(refusal);
+            let own = format!("# at byte {place}, refusal {refusal}: {meaning}");
+            assert_eq!(*remark, own);
+            assert!(!raw.is_empty() && raw.iter().all(is_raw), "{text}");
+        }
+        _ => panic!("{count} records in: {text}"),
+    }
 }
 
 /// The same through a file of this name, whose book is shown again; the last line may lack its end.
@@ -97,7 +124,7 @@ fn with_head(row: &Row, fields: &[u8]) -> Vec<u8> {
 #[test]
 fn any_bytes_at_all() {
     let mut chance = Chance::new(409, 0);
-    for number in 1..=400 {
+    for number in 1..=300 {
         let name = format!("bytes {number}");
         hold(&Book::new(name, any_bytes(&mut chance)));
     }
@@ -131,7 +158,8 @@ fn every_field_at_its_edges() {
     let (whole, broken): (Vec<_>, Vec<_>) = records.partition(|record| readable(record));
     assert!(250 < whole.len() && 500 < broken.len());
     hold_filed(&Book::new("all that can be read", whole.concat()), "edges");
-    for record in broken {
+    // Every other one still has each field at each of the three.
+    for record in broken.into_iter().step_by(2) {
         hold(&Book::new(format!("{record:02x?}"), record));
     }
 }
