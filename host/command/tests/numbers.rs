@@ -210,11 +210,10 @@ fn in_pieces_through_a_pipe() {
     let mut chance = Chance::new(331, 0);
     for book in short_books() {
         let _tried = Tried(&book.name, "in pieces");
-        for words in [&["run", "--records"][..], &["run", "--records", "--lines"]] {
-            let whole = ravundesk(words, &book.bytes);
-            let told = in_pieces(words, &book.bytes, &mut chance, answered);
-            assert_eq!(told, whole.text());
-        }
+        let words = ["run", "--records"];
+        let whole = ravundesk(&words, &book.bytes);
+        let told = in_pieces(&words, &book.bytes, &mut chance, answered);
+        assert_eq!(told, whole.text());
     }
 }
 
@@ -239,8 +238,8 @@ fn as_text_in_pieces() {
 
 #[test]
 fn as_text() {
-    let books = told_books().into_iter().chain(random_books(337, 100));
-    for book in books.filter(|book| book.bytes.len() < 30_000) {
+    let books = told_books().into_iter().chain(random_books(337, 80));
+    for book in books.filter(|book| book.bytes.len() < 10_000) {
         let _tried = Tried(&book.name, "as text");
         let shown = ravundesk(&["show"], &book.bytes);
         let text = ravundesk(&["run", "--text"], &shown.output);
