@@ -1,11 +1,11 @@
-//! Writes the crates' source as Rust: each crate that `desk` stands on becomes a module, its files the module's files.
+//! Writes the crates' source as Rust: `desk`, `writing` and each crate that they stand on become a module, its files the module's files.
 
 use std::collections::BTreeMap;
 use std::path::{Path, PathBuf};
 use std::{env, fs};
 
-/// The crate whose public functions are run; all others are found from its line in crates.txt.
-const TOP: &str = "desk";
+/// The crates whose public functions are run; all others are found from their lines in crates.txt.
+const TOPS: [&str; 2] = ["desk", "writing"];
 
 fn main() {
     let variable = |name| PathBuf::from(env::var(name).expect("cargo sets it"));
@@ -15,7 +15,7 @@ fn main() {
     println!("cargo:rerun-if-changed={}", list.display());
     let lines = dependencies(&text_of(&list));
     let mut modules = String::new();
-    for name in closure(&lines, TOP) {
+    for name in closure(&lines, TOPS) {
         let source = root.join("crates").join(&name).join("src");
         println!("cargo:rerun-if-changed={}", source.display());
         let module = out.join(&name);
@@ -40,8 +40,8 @@ fn dependencies(list: &str) -> BTreeMap<String, Vec<String>> {
         .collect()
 }
 
-fn closure(lines: &BTreeMap<String, Vec<String>>, top: &str) -> Vec<String> {
-    let mut found = vec![top.to_string()];
+fn closure(lines: &BTreeMap<String, Vec<String>>, tops: [&str; 2]) -> Vec<String> {
+    let mut found = tops.map(String::from).to_vec();
     let mut next = 0;
     while next < found.len() {
         for name in &lines[&found[next]] {

@@ -76,10 +76,12 @@ impl Feed {
         };
         if text {
             let begun = first.strip_prefix(MARK).unwrap_or(&first).to_vec();
-            feed.text = Some(Lines {
+            let mut lines = Lines {
                 begun,
                 ..Lines::default()
-            });
+            };
+            lines.take(&feed.input.name, false, &mut feed.held);
+            feed.text = Some(lines);
         } else {
             feed.held = first;
         }
@@ -95,12 +97,9 @@ impl Feed {
         let reading = read(rest, 0);
         let length = match reading.answer {
             Answer::Found { length, .. } => length,
-            Answer::Refused { why, .. } => {
-                if matches!(why, Refusal::CutShort) && !self.ended {
-                    return Next::Waits;
-                }
-                rest.len()
-            }
+            Answer::Refused { .. } if !is_cut(&reading) => judged(rest),
+            Answer::Refused { .. } if self.ended => rest.len(),
+            Answer::Refused { .. } => return Next::Waits,
         };
         let piece = Piece {
             place: self.place,
@@ -141,6 +140,20 @@ impl Feed {
         }
         Ok(self.held.split_off(self.start))
     }
+}
+
+fn is_cut(reading: &Reading) -> bool {
+    let why = match reading.answer {
+        Answer::Found { .. } => return false,
+        Answer::Refused { why, .. } => why,
+    };
+    matches!(why, Refusal::CutShort)
+}
+
+/// How many of the bytes it takes to see that they are no record. How many more have come by then is chance, and is not told.
+fn judged(bytes: &[u8]) -> usize {
+    let enough = |size: &usize| !is_cut(&read(&bytes[..*size], 0));
+    (HEAD..bytes.len()).find(enough).unwrap_or(bytes.len())
 }
 
 impl Lines {
