@@ -49,6 +49,12 @@ status() {
     esac
 }
 
+# What has to be built is built, and told of, before anything is held to what is said.
+./ravundesk book </dev/null 2>"$place/built" || {
+    cat "$place/built"
+    exit 1
+}
+
 # The proved program's lines are those told by hand, and so are the source's; a book's text is the book.
 for name in day refusals payout; do
     told "$name.book" >"$place/told"
@@ -127,6 +133,12 @@ lines=$(wc -l <out)
 call 1 run --lines eight
 [ "$lines" -lt "$(wc -l <out)" ] || fail "run does not read all of a long book"
 
+# A terminal is no place for bytes.
+got=0
+script -qec "'$root/ravundesk' write '$root/examples/day.txt'" /dev/null >out 2>&1 </dev/null || got=$?
+[ "$got" = 2 ] || fail "status $got of a book written to a terminal"
+grep -q "^ravundesk: a book is bytes, which a terminal can't show: write it to a file, with > FILE or --to FILE" out || fail "a terminal is shown a book"
+
 # A wrong line: its file, its number, the word, what would be right; nothing is written, and what was there stays.
 printf 'open 6000.00\norder 1 sell_open 0 x2 @0.05\n' >wrong.txt
 echo before >kept
@@ -165,6 +177,11 @@ if [ "$(id -u)" = 0 ]; then
     [ "$got" = 2 ] || fail "status $got with a file that may not be read"
     says "mine can't be read: permission denied"
 fi
+
+# The lines of the proved source are those that the proved program is held to, on the same books (books.sh).
+cd "$root"
+sh tests/cargo.sh build
+host/target/release/books 40 1 sh -c 'head -c 65536 | "$0" run --lines --records 2>/dev/null; [ $? != 2 ]' host/target/release/ravundesk
 
 # The documents' lists are the command's own.
 {

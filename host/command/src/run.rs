@@ -20,6 +20,8 @@ const MOST_FIGURES: usize = 4;
 /// Bytes that are told of a record that can't be read.
 const MOST_BYTES: usize = 6;
 
+pub const BY_SOURCE: &str = "answered by the proved source, compiled by rustc";
+
 pub fn run(asked: &Asked, output: &mut Output) -> Outcome {
     let manner = asked.one_of(&["--refused", "--lines", "--quiet"])?;
     let mut feed = opened(asked)?;
@@ -111,8 +113,7 @@ impl Run {
     /// Behind all that is printed, for the person at the desk: what the run came to, and who has answered.
     pub fn tell(&self, output: &mut Output) -> Result<(), Trouble> {
         output.flush()?;
-        let by = "answered by the proved source, compiled by rustc";
-        say(&format!("{}; {by}", self.summary()));
+        say(&format!("{}; {BY_SOURCE}", self.summary()));
         Ok(())
     }
 

@@ -77,8 +77,9 @@ fn hold_summary(run: &Run, told: &str) {
     } else {
         String::new()
     };
+    let what = if read == 1 { "record" } else { "records" };
     let counts =
-        format!("{read} records, {accepted} accepted, {refused} refused{stopped}; available ");
+        format!("{read} {what}, {accepted} accepted, {refused} refused{stopped}; available ");
     let sum = told.strip_prefix(&counts).expect("the counts");
     assert_eq!(decimal(sum, 2), run.book.available().into());
 }

@@ -38,13 +38,14 @@ fn named(field: &Field, place: usize) -> String {
 /// What is wrong with a field's number by itself and by the tables.
 fn outside(tables: &Tables, field: &Field, number: u64) -> Option<String> {
     let shown = spelled(field.form, number);
-    let listed = |count: usize| match count {
-        _ if number < count as u64 => None,
-        0 => Some(format!("{shown} is not in the tables, which have none")),
-        _ => Some(format!(
-            "{shown} is not in the tables, which have 0 to {}",
-            count - 1
-        )),
+    let listed = |count: usize| {
+        let there = match count {
+            0 => "none".to_string(),
+            1 => "only 0".to_string(),
+            _ => format!("0 to {}", count - 1),
+        };
+        let missing = count as u64 <= number;
+        missing.then(|| format!("{shown} is not in the tables, which have {there}"))
     };
     let all = |count: usize| {
         let other = number != count as u64;

@@ -1,5 +1,6 @@
 //! Why a record can't be read: how many bytes there are and should be, its kind, its length, its counts, its codes.
 
+use crate::decimal::counted;
 use crate::records::line::{values, HEAD};
 use crate::records::table::{row, Form, Row, Times, ROWS};
 use native::entries::{counts, Kind, KindCoded};
@@ -8,11 +9,10 @@ use native::terms::Measure;
 /// The bytes are all that is left where the record is cut short.
 pub fn figures(bytes: &[u8], refusal: u8) -> String {
     match refusal {
-        1 => format!(
-            "{} bytes left unread, {} needed",
-            bytes.len(),
-            needed(bytes)
-        ),
+        1 => {
+            let left = counted(bytes.len() as u64, "byte");
+            format!("{left} left unread, {} needed", needed(bytes))
+        }
         2 => format!("kind {}, listed are {}", two(bytes, 2), kinds()),
         _ => misshapen(bytes),
     }

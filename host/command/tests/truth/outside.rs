@@ -120,9 +120,12 @@ fn fault(places: usize, value: i128, words: &str) -> Fault {
         return Fault::Uneven(value);
     }
     if let Some(rest) = words.strip_prefix("not in the tables, which have ") {
-        let last = rest.strip_prefix("0 to ").map(count);
-        assert!(last.is_some() || rest == "none", "{words}");
-        return Fault::Unlisted(value, last.map_or(0, |last| last + 1));
+        let there = match rest {
+            "none" => 0,
+            "only 0" => 1,
+            _ => 1 + count(rest.strip_prefix("0 to ").expect("those that are there")),
+        };
+        return Fault::Unlisted(value, there);
     }
     if let Some(own) = words.strip_prefix("not the tables' ") {
         return Fault::Uncounted(value, count(own));

@@ -44,7 +44,9 @@ fn range(words: &str) -> RangeInclusive<u64> {
 
 /// A head, then a day end's counts, then what the record's own length says.
 fn cut(bytes: &[u8], words: &str) -> &'static str {
-    let (left, needed) = part(words, " bytes left unread, ");
+    let (left, needed) = part(words, " left unread, ");
+    let (left, bytes_or_byte) = part(left, " ");
+    assert_eq!(bytes_or_byte == "byte", left == "1", "{words}");
     let needed = needed.strip_suffix(" needed").expect("so many are needed");
     let (own, form) = match bytes.len() {
         0..=3 => (4, "in its head"),
