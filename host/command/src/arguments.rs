@@ -19,8 +19,8 @@ pub struct Verb {
 
 pub struct Choice {
     pub name: &'static str,
-    /// What stands behind it, where something does.
-    pub value: Option<&'static str>,
+    /// What stands behind it, where something does: a sign for it, and its sort in words.
+    pub value: Option<(&'static str, &'static str)>,
     pub about: &'static str,
 }
 
@@ -70,15 +70,16 @@ impl Asked {
                 return Err(misused(verb, &format!("{name} takes no value")));
             }
             None => String::new(),
-            Some(what) => joined
+            Some((_, sort)) => joined
                 .or_else(|| words.next().cloned())
-                .ok_or_else(|| misused(verb, &format!("{name} takes {what}")))?,
+                .ok_or_else(|| misused(verb, &format!("{name} takes {sort}")))?,
         };
         self.options.push((choice.name, value));
         Ok(())
     }
 
-    pub fn file(&self) -> Option<&str> {
+    /// No verb takes more than one.
+    pub fn operand(&self) -> Option<&str> {
         self.operands.first().map(String::as_str)
     }
 

@@ -97,7 +97,7 @@ impl Feed {
         let reading = read(rest, 0);
         let length = match reading.answer {
             Answer::Found { length, .. } => length,
-            Answer::Refused { .. } if !is_cut(&reading) => judged(rest),
+            Answer::Refused { .. } if !is_cut(&reading) => told_by(rest),
             Answer::Refused { .. } if self.ended => rest.len(),
             Answer::Refused { .. } => return Next::Waits,
         };
@@ -151,7 +151,7 @@ fn is_cut(reading: &Reading) -> bool {
 }
 
 /// How many of the bytes it takes to see that they are no record. How many more have come by then is chance, and is not told.
-fn judged(bytes: &[u8]) -> usize {
+fn told_by(bytes: &[u8]) -> usize {
     let enough = |size: &usize| !is_cut(&read(&bytes[..*size], 0));
     (HEAD..bytes.len()).find(enough).unwrap_or(bytes.len())
 }

@@ -1,3 +1,5 @@
+//! What is typed goes to its verb; how that ends is told by a line, where something is wrong, and by the exit status.
+
 use ravundesk::arguments::Asked;
 use ravundesk::output::{say, Output};
 use ravundesk::trouble::{Outcome, Status, Trouble};

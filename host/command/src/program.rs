@@ -17,7 +17,7 @@ const MOST_READ: usize = 65_536;
 pub const INSTALLED: &str = "RAVUNDESK_BOOK";
 
 pub fn book(asked: &Asked, output: &mut Output) -> Outcome {
-    let mut input = Input::open(asked.file())?;
+    let mut input = Input::open(asked.operand())?;
     let folder = env::var_os(INSTALLED).map(PathBuf::from);
     let folder = folder.ok_or_else(|| {
         Trouble(

@@ -46,7 +46,7 @@ fn place(book: &Book, row: &Row) -> String {
             format!("has {m} and {n} and is not open")
         }
     };
-    format!("{} {where_it_stands}; the book {stage}", row.word())
+    format!("{} {where_it_stands}; the book {stage}", row.first_word())
 }
 
 fn judged(book: &Book, entry: Entry, refusal: u8) -> String {

@@ -47,7 +47,7 @@ pub fn opened(asked: &Asked) -> Result<Feed, Trouble> {
         Some(_) => Taken::Records,
         None => Taken::AsItLooks,
     };
-    Feed::new(Input::open(asked.file())?, taken)
+    Feed::new(Input::open(asked.operand())?, taken)
 }
 
 /// What a run came to.

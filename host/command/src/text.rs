@@ -17,7 +17,7 @@ const MOST_RAW: usize = 32;
 
 /// Nothing is written before the whole text is read and right.
 pub fn write(asked: &Asked, output: &mut Output) -> Outcome {
-    let mut feed = Feed::new(Input::open(asked.file())?, Taken::Text)?;
+    let mut feed = Feed::new(Input::open(asked.operand())?, Taken::Text)?;
     let book = feed.rest()?;
     match asked.value("--to") {
         Some(file) => write_file(file, &book)?,
@@ -50,7 +50,7 @@ fn at_a_terminal() -> bool {
 }
 
 pub fn show(asked: &Asked, output: &mut Output) -> Outcome {
-    let input = Input::open(asked.file())?;
+    let input = Input::open(asked.operand())?;
     let name = input.name.clone();
     let mut feed = Feed::new(input, Taken::Records)?;
     let mut status = Status::Accepted;

@@ -4,7 +4,7 @@ use crate::account;
 use crate::arguments::{Asked, Choice, Verb};
 use crate::output::Output;
 use crate::records::list;
-use crate::run::{answered, opened, run};
+use crate::run::run;
 use crate::text::{show, write};
 use crate::trouble::{Outcome, Status, Trouble};
 use crate::version::version;
@@ -57,16 +57,19 @@ units of the underlying.",
         options: &[
             Choice {
                 name: "--after",
-                value: Some("a number of records"),
+                value: Some(("N", "a number of records")),
                 about: "after so many records",
             },
-            choice("--csv", "comma-separated: section, row, field, value"),
+            choice(
+                "--csv",
+                "comma-separated: section, row, field, value, measure",
+            ),
             choice("--json", "one JSON object"),
             TEXT,
             RECORDS,
         ],
         operands: 1,
-        run: shown_account,
+        run: account::account,
     },
     Verb {
         name: "write",
@@ -79,7 +82,7 @@ Where a line is wrong, its number and what would be right are told, and nothing 
 written.",
         options: &[Choice {
             name: "--to",
-            value: Some("a file's name"),
+            value: Some(("BOOK", "a file's name")),
             about: "the file to write, whole or not at all; else standard output",
         }],
         operands: 1,
@@ -99,7 +102,7 @@ record are shown as `raw` lines, with the reason before them.",
     Verb {
         name: "book",
         usage: "book [FILE]",
-        about: "runs the proved program itself, which prints document 01's lines",
+        about: "runs the proved program itself, which prints bare lines",
         help: "\
 FILE is a book as records, of which the first 65,536 bytes are read. Without one
 standard input is read.
@@ -158,7 +161,7 @@ pub fn verb(name: &str) -> Result<&'static Verb, Trouble> {
 }
 
 fn help(asked: &Asked, output: &mut Output) -> Outcome {
-    match asked.file() {
+    match asked.operand() {
         Some(name) => output.put(help_on(verb(name)?))?,
         None => output.put(help_text())?,
     }
@@ -194,7 +197,7 @@ pub fn help_on(verb: &Verb) -> String {
     }
     for choice in verb.options {
         let name = match choice.value {
-            Some(_) => format!("{} {}", choice.name, "X"),
+            Some((sign, _)) => format!("{} {sign}", choice.name),
             None => choice.name.to_string(),
         };
         text += &format!("  {name:11} {}\n", choice.about);
@@ -215,32 +218,4 @@ fn listed(
     };
     output.put(list)?;
     Ok(Status::Accepted)
-}
-
-fn shown_account(asked: &Asked, output: &mut Output) -> Outcome {
-    let form = asked.one_of(&["--csv", "--json"])?;
-    let after = asked.value("--after").map(|word| {
-        let number = word.parse::<u64>();
-        number.map_err(|_| {
-            Trouble(format!(
-                "--after takes a number of records, and not `{word}`"
-            ))
-        })
-    });
-    let after = after.transpose()?;
-    let run = answered(&mut opened(asked)?, output, after, |_, _| Ok(()))?;
-    let records = run.desk.records;
-    if let Some(after) = after.filter(|&after| records < after) {
-        return Err(Trouble(format!(
-            "there is no record {after}, only {records}"
-        )));
-    }
-    let view = account::view(&run.desk.book);
-    output.put(match form {
-        Some("--csv") => account::csv(&view),
-        Some(_) => account::json(&view),
-        None => account::table(&view),
-    })?;
-    run.tell(output)?;
-    Ok(run.status)
 }

@@ -75,7 +75,7 @@ fn misshapen(bytes: &[u8]) -> String {
         kind.length().to_string()
     };
     if !kind.fits(length) {
-        return format!("length {length}, of {} {own}", row.word());
+        return format!("length {length}, of {} {own}", row.first_word());
     }
     if kind.is_day_end() {
         return uncounted(length, two(bytes, 4), two(bytes, 6));

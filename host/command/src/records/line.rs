@@ -133,7 +133,7 @@ pub fn bytes_of(line: &str) -> Result<Vec<u8>, Wrong> {
     match words.next() {
         None => Ok(Vec::new()),
         Some(RAW) => raw(words),
-        Some(first) => match ROWS.iter().find(|row| row.word() == first) {
+        Some(first) => match ROWS.iter().find(|row| row.first_word() == first) {
             Some(row) => recorded(row, words),
             None => Err(wrong(Some(first), first_words())),
         },
@@ -141,7 +141,7 @@ pub fn bytes_of(line: &str) -> Result<Vec<u8>, Wrong> {
 }
 
 fn first_words() -> String {
-    let words: Vec<&str> = ROWS.iter().map(Row::word).collect();
+    let words: Vec<&str> = ROWS.iter().map(Row::first_word).collect();
     format!("a record begins with one of: {} {RAW}", words.join(" "))
 }
 

@@ -225,7 +225,7 @@ pub fn row(kind: u16) -> Option<&'static Row> {
 
 impl Row {
     /// The word that the line begins with.
-    pub fn word(&self) -> &'static str {
+    pub fn first_word(&self) -> &'static str {
         self.text.split(' ').next().unwrap_or(self.text)
     }
 
