@@ -168,19 +168,20 @@ done
 [ "$(cat status)" = 2 ] || fail "status $(cat status) with a reader that is gone"
 says "standard output was closed before all was written"
 
-# A file that may not be read, where there is another user to be.
+# A file that may not be read, where there is another user to be, who need not get into this tree.
+(cd "$root" && sh tests/cargo.sh build)
 if [ "$(id -u)" = 0 ]; then
     chmod 755 "$place"
+    cp "$root/host/target/release/ravundesk" command
     cp "$root/examples/day.book" mine && chmod 600 mine
     got=0
-    setpriv --reuid=65534 --regid=65534 --clear-groups "$root/ravundesk" run mine >out 2>err || got=$?
+    setpriv --reuid=65534 --regid=65534 --clear-groups ./command run mine >out 2>err || got=$?
     [ "$got" = 2 ] || fail "status $got with a file that may not be read"
     says "mine can't be read: permission denied"
 fi
 
 # The lines of the proved source are those that the proved program is held to, on the same books (books.sh).
 cd "$root"
-sh tests/cargo.sh build
 host/target/release/books 40 1 sh -c 'head -c 65536 | "$0" run --lines --records 2>/dev/null; [ $? != 2 ]' host/target/release/ravundesk
 
 # The documents' lists are the command's own.
