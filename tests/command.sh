@@ -4,6 +4,7 @@ cd "$(dirname "$0")/.."
 root=$PWD
 place=$(mktemp -d)
 trap 'rm -rf "$place"' EXIT
+exec </dev/null
 
 fail() {
     printf 'ravundesk: %s\n' "$1"
@@ -23,7 +24,7 @@ call() {
 refuses() {
     words=$1
     shift
-    call 2 "$@" </dev/null
+    call 2 "$@"
     [ ! -s "$place/out" ] || fail "something is printed: $*"
     [ "$(cat "$place/err")" = "ravundesk: $words" ] || fail "not said: $words"
 }
@@ -160,6 +161,9 @@ for verb in run account show book; do
     [ "$got" = 2 ] || fail "$verb: status $got with standard output closed"
     says "standard output is closed"
 done
+# Input that is closed matters where it would be read.
+for verb in run account show write book; do refuses "standard input is closed" "$verb" - <&-; done
+call 1 run --quiet "$root/examples/day.book" <&-
 {
     got=0
     "$root/ravundesk" run eight 2>err || got=$?

@@ -18,7 +18,8 @@ refusals() {
 
 closed_ones() {
     refuses "standard output is closed" sh -c 'exec "$0" run >&-' "$small/ravundesk"
-    refuses "standard input is closed" sh -c 'exec "$0" run <&-' "$small/ravundesk"
+    use sh -c 'exec "$0" run <&-' "$small/ravundesk"
+    [ "$got" = 0 ] || fail "status $got with standard input closed, which the command is told of"
     use sh -c 'exec "$0" run 2>&-' "$small/ravundesk"
     [ "$got" = 0 ] || fail "status $got with standard error closed"
 }

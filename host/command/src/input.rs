@@ -1,6 +1,7 @@
 //! A file or standard input, told by its name where it can't be read.
 
 use crate::trouble::{system, Trouble};
+use std::env;
 use std::fs::File;
 use std::io::{self, ErrorKind, Read};
 
@@ -9,6 +10,9 @@ pub struct Input {
     from: Box<dyn Read>,
 }
 
+/// Set by the launcher where standard input is closed. This program can't see that: the system puts an empty one in its place.
+const CLOSED: &str = "RAVUNDESK_INPUT";
+
 /// How much is asked for at once.
 const CHUNK: usize = 1 << 16;
 
@@ -16,6 +20,9 @@ impl Input {
     /// A file, or standard input where none is named or its name is `-`.
     pub fn open(file: Option<&str>) -> Result<Input, Trouble> {
         match file {
+            None | Some("-") if env::var_os(CLOSED).is_some() => {
+                Err(Trouble("standard input is closed".to_string()))
+            }
             None | Some("-") => Ok(Input {
                 name: "standard input".to_string(),
                 from: Box::new(io::stdin()),
