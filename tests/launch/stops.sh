@@ -9,7 +9,7 @@ begin() {
 
 # once CONDITION: waits until it holds.
 once() {
-    tries=600
+    tries=2400
     until eval "$1"; do
         tries=$((tries - 1))
         [ "$tries" -gt 0 ] || fail "waited for long: $1"
