@@ -1,9 +1,10 @@
 # A build that is stopped in the middle leaves no process and no lock, and the next one goes on from there. Sourced.
 
-# begin ARGUMENTS..: the launcher in a group of its own, which a signal can be sent to as a terminal does.
+# begin ARGUMENTS..: the launcher in a group of its own, which a signal can be sent to as a terminal does. What the caller of the tests ignores,
+# it would ignore too.
 begin() {
     : >"$place/err"
-    env --default-signal=INT setsid "$small/ravundesk" "$@" >"$place/out" 2>"$place/err" </dev/null &
+    env --default-signal=HUP,INT,TERM setsid "$small/ravundesk" "$@" >"$place/out" 2>"$place/err" </dev/null &
     begun=$!
 }
 
