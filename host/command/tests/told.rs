@@ -1,4 +1,5 @@
-//! Every refusal's words with its figures, held to stored lines: the texts of `told/` run, each beside what was worked out for it.
+//! Every refusal's words with its figures, held to stored lines, so that none changes unseen. The lines are what the command printed when they
+//! were stored, and were read then; that their figures are right is for `truth.rs` to tell, by the second working.
 
 use std::fs;
 use std::path::{Path, PathBuf};

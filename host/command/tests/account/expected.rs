@@ -1,5 +1,5 @@
-//! Examples, and books that are not open yet, held to the text under `tests/expected/`. With WRITE_EXPECTED set the text is written anew,
-//! to be read before it is kept.
+//! Examples, and books that are not open yet, held to the text under `tests/expected/`. With WRITE_EXPECTED set the text is written anew, to be
+//! read before it is kept; the test still fails then, where the text was another.
 
 use crate::after;
 use crate::forms::all_forms_hold;
@@ -13,10 +13,10 @@ fn example(name: &str) -> Vec<u8> {
 
 fn hold(name: &str, text: &str) {
     let file = format!("{}/tests/expected/{name}", env!("CARGO_MANIFEST_DIR"));
+    let expected = fs::read_to_string(&file).unwrap_or_default();
     if env::var_os("WRITE_EXPECTED").is_some() {
         fs::write(&file, text).expect("the directory is there");
     }
-    let expected = fs::read_to_string(&file).unwrap_or_default();
     assert_eq!(text, expected, "{name}");
 }
 
