@@ -25,13 +25,13 @@ use Rattle.account.specs.Money.{marginBy, marginOne, holdOne, kindOf, ho
 use Rattle.account.specs.Orders.{orderAllowed}
 use Rattle.account.specs.Rows.{free, contract, underlying, position, holding, order}
 use Rattle.account.specs.Sound.{SoundPayout, SoundTables, SoundOrder, Sound, SoundSheet, asOrder, underlyingAllowed, contractAllowed}
-use Rattle.account.specs.Sums.{Σ, _when_}
+use Rattle.terms.specs.Sums.{Σ, _when_}
 use Rattle.account.specs.Totals.{isOf, countOf, countIn, overOrders, totalIn, coveredUnits}
 use Rattle.account.specs.declared.account.Account.{Account}
 use Rattle.account.specs.declared.account.Resting.{Resting}
 use Rattle.account.specs.declared.tables.Tables.{Tables}
 use Rattle.account.proofs.Held.{sound-held, waiting-held}
-use Rattle.account.proofs.Sums.{Σ-bound, Σ-term}
+use Rattle.terms.proofs.Sums.{Σ-bound, Σ-term}
 
 -- the tests of an underlying's record, of a contract's, of an order and of a day end each have four parts
 pub four : (a b c d : Bool) → (a && b && c && d) ≡ true → (a ≡ true) × (b ≡ true) × (c ≡ true) × (d ≡ true)

@@ -18,12 +18,12 @@ use Rattle.account.specs.Changes.{applied}
 use Rattle.account.specs.Fills.{placeOf, named, orderAfter, cancelVerdict, cancelChange}
 use Rattle.account.specs.Rows.{free, noHolding, noPosition, contract, underlying, position, holding, order}
 use Rattle.account.specs.Sound.{Sound, asOrder}
-use Rattle.account.specs.Sums.{_when_}
+use Rattle.terms.specs.Sums.{_when_}
 use Rattle.account.specs.Totals.{countOf, countIn, isKind, isOpen, restingIn, rightsIn, totalIn}
 use Rattle.account.specs.declared.account.Account.{Account}
 use Rattle.account.specs.declared.account.Holding.{Holding}
 use Rattle.account.specs.declared.account.Resting.{Resting}
-use Rattle.account.specs.declared.judged.Verdict.the-variants.{Accepted}
+use Rattle.terms.specs.declared.verdict.Verdict.the-variants.{Accepted}
 use Rattle.account.specs.declared.tables.Tables.{Tables}
 use Rattle.account.proofs.Allowed.{underlying-known}
 use Rattle.account.proofs.Bounds.{small}

@@ -21,17 +21,17 @@ use Rattle.account.specs.Sound.{SoundTables, Sound}
 use Rattle.account.specs.Totals.{countIn, isKind, isOpen, overOrders, rightsIn, totalIn, coveredUnits, reservedUnits}
 use Rattle.account.specs.declared.account.Account.{Account}
 use Rattle.account.specs.declared.account.Holding.{Holding}
-use Rattle.account.specs.declared.judged.Verdict.the-variants.{Accepted}
+use Rattle.terms.specs.declared.verdict.Verdict.the-variants.{Accepted}
 use Rattle.account.specs.declared.tables.Tables.{Tables}
 use Rattle.account.proofs.Bounds.{row-of, covered-in}
 use Rattle.account.proofs.Held.{Held, sound-held, waiting-paid}
 use Rattle.account.proofs.Installed.{InRange, figures-passed, installed-sound, same-n, same-m, same-right, same-rights, same-total, count-installed, covered-installed}
 use Rattle.account.proofs.Kept.{margin-kept, covered-kept}
-use Rattle.account.proofs.Listed.{listed-at}
+use Rattle.terms.proofs.Listed.{listed-at}
 use Rattle.account.proofs.Netted.{nothing-netted, position-netted, count-less, count-in-less, covered-less}
 use Rattle.account.proofs.NoOrders.{NoOrders, all-free, closes-none, no-orders}
 use Rattle.account.proofs.Rows.{untouched}
-use Rattle.account.proofs.Sums.{Σ-none}
+use Rattle.terms.proofs.Sums.{Σ-none}
 
 -- a holding of so many units, nothing bought yet
 abbrev pub covering : ℕ → Holding

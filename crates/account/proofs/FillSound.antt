@@ -29,11 +29,11 @@ use Rattle.account.specs.Orders.{coveredPut, orderAllowed}
 use Rattle.account.specs.Rows.{noHolding, contract, underlying, position, holding, order, free}
 use Rattle.account.specs.Running.{ordered}
 use Rattle.account.specs.Sound.{Sound, SoundOrder, asOrder}
-use Rattle.account.specs.Sums.{_when_}
+use Rattle.terms.specs.Sums.{_when_}
 use Rattle.account.specs.Totals.{isOf, countOf, isKind, isOpen, restingOn, rightsIn, totalIn}
 use Rattle.account.specs.declared.account.Account.{Account}
 use Rattle.account.specs.declared.account.Resting.{Resting}
-use Rattle.account.specs.declared.judged.Verdict.the-variants.{Accepted}
+use Rattle.terms.specs.declared.verdict.Verdict.the-variants.{Accepted}
 use Rattle.account.specs.declared.tables.Tables.{Tables}
 use Rattle.account.proofs.Allowed.{contract-known, underlying-known}
 use Rattle.account.proofs.Filled.{FillPassed, fill-held, fill-passed, fill-takes}

@@ -9,7 +9,7 @@ use lib.Dec.{eqb}
 use Rattle.account.specs.Orders.{freePlace}
 use Rattle.account.specs.Rows.{order}
 use Rattle.account.specs.Running.{freeIn}
-use Rattle.account.specs.Sums.{Σ, _when_, lowest}
+use Rattle.terms.specs.Sums.{Σ, _when_, lowest}
 use Rattle.account.specs.declared.account.Account.{Account}
 
 -- the number whose digits below n stand where a test holds

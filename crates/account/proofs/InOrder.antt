@@ -25,7 +25,8 @@ use Rattle.entries.specs.declared.entry.Figures.{Figures}
 use Rattle.entries.specs.declared.entry.Fill.{Fill}
 use Rattle.entries.specs.declared.entry.Order.{Order}
 use Rattle.account.specs.Checks.{Check, Values, columns, meets, member, metBy, orderVerdict, passes, refusalFor, walked}
-use Rattle.account.specs.DayEnd.{closeOf, dayEndVerdict, every, settlementOf}
+use Rattle.account.specs.DayEnd.{closeOf, dayEndVerdict, settlementOf}
+use Rattle.terms.specs.Listed.{every}
 use Rattle.account.specs.Fills.{cancelVerdict, fillVerdict, named, paid, priceAllowed}
 use Rattle.account.specs.InOrder.{_above_, cancelTests, dayEndTests, depositTests, entryTests, fillTests, first, lockTests, orderTests, outside, payoutTests, some, unlockTests, withdrawTests}
 use Rattle.account.specs.Locks.{lockVerdict, unitsAllowed, unlockVerdict}
@@ -35,14 +36,14 @@ use Rattle.account.specs.Rows.{contract, holding}
 use Rattle.account.specs.Steps.{refusalOf}
 use Rattle.account.specs.Totals.{spareUnits}
 use Rattle.account.specs.Transfers.{amountAllowed, depositVerdict, payoutVerdict, withdrawVerdict}
-use Rattle.account.specs.Verdicts.{_else_then_, numberIn}
+use Rattle.terms.specs.Verdicts.{_else_then_, numberIn}
 use Rattle.account.specs.declared.account.Account.{Account}
 use Rattle.account.specs.declared.account.Holding.{Holding}
 use Rattle.account.specs.declared.account.Sheet.{Sheet}
 use Rattle.account.specs.declared.judged.Facts.{Facts}
 use Rattle.account.specs.declared.judged.Named.{Named}
-use Rattle.account.specs.declared.judged.Verdict.{Verdict}
-use Rattle.account.specs.declared.judged.Verdict.the-variants.{Accepted}
+use Rattle.terms.specs.declared.verdict.Verdict.{Verdict}
+use Rattle.terms.specs.declared.verdict.Verdict.the-variants.{Accepted}
 use Rattle.account.specs.declared.tables.Tables.{Tables}
 use Rattle.account.proofs.Flags.{listed}
 

@@ -13,18 +13,19 @@ use Rattle.terms.specs.declared.refusal.Refusal.the-variants.{OutOfRange}
 use Rattle.entries.specs.declared.entry.Contract.{Contract}
 use Rattle.entries.specs.declared.entry.Figures.{Figures}
 use Rattle.entries.specs.declared.entry.Underlying.{Underlying}
-use Rattle.account.specs.DayEnd.{every, settlementOf, closeOf, settled, closed, dayEndVerdict, figuresInstalled}
+use Rattle.account.specs.DayEnd.{settlementOf, closeOf, settled, closed, dayEndVerdict, figuresInstalled}
+use Rattle.terms.specs.Listed.{every}
 use Rattle.account.specs.Rows.{noContract, noUnderlying, contract, underlying, position}
 use Rattle.account.specs.Sound.{SoundTables}
-use Rattle.account.specs.Sums.{_when_}
+use Rattle.terms.specs.Sums.{_when_}
 use Rattle.account.specs.Totals.{countOf, countIn, coveredUnits}
 use Rattle.account.specs.declared.account.Account.{Account}
-use Rattle.account.specs.declared.judged.Verdict.the-variants.{Accepted}
+use Rattle.terms.specs.declared.verdict.Verdict.the-variants.{Accepted}
 use Rattle.account.specs.declared.tables.Tables.{Tables}
 use Rattle.account.proofs.Bounds.{four, limits-of, row-of}
-use Rattle.account.proofs.Listed.{listed-below, each-passes}
+use Rattle.terms.proofs.Listed.{listed-below, each-passes}
 use Rattle.account.proofs.Passed.{went-on}
-use Rattle.account.proofs.Sums.{Σ-same}
+use Rattle.terms.proofs.Sums.{Σ-same}
 
 -- what the verdict on a day end asks of its figures
 pub record InRange (t : Tables) (f : Figures) : Type 0 where

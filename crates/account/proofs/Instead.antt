@@ -11,9 +11,9 @@ use Rattle.terms.specs.declared.count.Position.{Position}
 use Rattle.account.specs.Rows.{noPosition}
 use Rattle.account.specs.Running.{closingMoved, instead, noRunning, runningMoved}
 use Rattle.account.specs.Room.{ClosingMoves, Moves, RunningMoves}
-use Rattle.account.specs.Sums.{Σ, _when_}
+use Rattle.terms.specs.Sums.{Σ, _when_}
 use Rattle.account.specs.declared.running.Running.{Running}
-use Rattle.account.proofs.Sums.{Σ-changed, Σ-same, Σ-term}
+use Rattle.terms.proofs.Sums.{Σ-changed, Σ-same, Σ-term}
 
 -- a sum of which one term, counted where a test holds, gave way to another: before, after, the old term, the new one
 pub record Step (here : Bool) (before after old new : ℕ) : Type 0 where

@@ -16,7 +16,6 @@ pub mod Installed
 pub mod Instead
 pub mod Kept
 pub mod KindNumbers
-pub mod Listed
 pub mod LockSound
 pub mod Lowest
 pub mod Moved
@@ -38,6 +37,5 @@ pub mod Standing
 pub mod StepHeld
 pub mod StepMovable
 pub mod StepSound
-pub mod Sums
 pub mod Taken
 pub mod TransferSound

@@ -14,11 +14,11 @@ use Rattle.account.specs.Locks.{unitsAllowed, locking, lockVerdict, lock
 use Rattle.account.specs.Rows.{noHolding, holding}
 use Rattle.account.specs.Sound.{Sound}
 use Rattle.account.specs.Totals.{coveredUnits, reservedUnits, spareUnits}
-use Rattle.account.specs.Verdicts.{_else_then_}
+use Rattle.terms.specs.Verdicts.{_else_then_}
 use Rattle.account.specs.declared.account.Account.{Account}
 use Rattle.account.specs.declared.account.Holding.{Holding}
-use Rattle.account.specs.declared.judged.Verdict.{Verdict}
-use Rattle.account.specs.declared.judged.Verdict.the-variants.{Accepted}
+use Rattle.terms.specs.declared.verdict.Verdict.{Verdict}
+use Rattle.terms.specs.declared.verdict.Verdict.the-variants.{Accepted}
 use Rattle.account.specs.declared.judged.Waiting.the-variants.{Stays}
 use Rattle.account.specs.declared.tables.Tables.{Tables}
 use Rattle.account.proofs.Held.{Held, sound-held, unplaced-held}

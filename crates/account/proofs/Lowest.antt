@@ -6,7 +6,7 @@ use Prim.Native.Nat.{ℕ, zero, suc, _+_, _≤_, _<_}
 use native.Mathlib.Nat.{eq-or-lt-of-le, le-of-suc-le-suc}
 use native.Mathlib.Numerals.{add-one}
 use native.Mathlib.Omega.{arith}
-use Rattle.account.specs.Sums.{lowest}
+use Rattle.terms.specs.Sums.{lowest}
 
 lowest-most : (n : ℕ) (test : ℕ → Bool) → lowest n test ≤ n
 unfolding lowest

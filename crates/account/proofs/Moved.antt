@@ -21,12 +21,12 @@ use Rattle.rules.specs.Count.{forCount}
 use Rattle.account.specs.Fills.{moved}
 use Rattle.account.specs.Money.{marginOne, marginIn}
 use Rattle.account.specs.Rows.{noPosition, contract, position}
-use Rattle.account.specs.Sums.{Σ, _when_}
+use Rattle.terms.specs.Sums.{Σ, _when_}
 use Rattle.account.specs.Totals.{isOf, countOf, countIn, isKind, coveredUnits}
 use Rattle.account.specs.declared.account.Account.{Account}
 use Rattle.account.specs.declared.tables.Tables.{Tables}
 use Rattle.account.proofs.Placed.{nothing-when}
-use Rattle.account.proofs.Sums.{Σ-changed}
+use Rattle.terms.proofs.Sums.{Σ-changed}
 use Rattle.account.proofs.Taken.{Additive, additive-when, additive-times}
 
 -- the kind that opens a side, and the one that closes it

@@ -20,7 +20,7 @@ use Rattle.account.specs.Fills.{orderAfter}
 use Rattle.account.specs.Rows.{free, noPosition, contract, position, order}
 use Rattle.account.specs.Running.{closing, closingMoved, closingOf, closingOn, freeAt, freeIn, noRunning, ordered, running, runningIn, runningMoved, runningOf}
 use Rattle.account.specs.Sound.{Sound}
-use Rattle.account.specs.Sums.{Σ, _when_}
+use Rattle.terms.specs.Sums.{Σ, _when_}
 use Rattle.account.specs.Totals.{countIn, countOf, coveredUnits, isKind, isOf, isOpen, overOrders, reservedUnits, restingIn, restingOn, rightsIn, totalIn}
 use Rattle.account.specs.declared.account.Account.{Account}
 use Rattle.account.specs.declared.account.Resting.{Resting}
@@ -31,7 +31,7 @@ use Rattle.account.proofs.Bounds.{left-so-far, limits-of, total-most}
 use Rattle.account.proofs.Instead.{CloseSteps, ClosingSmall, RunningSmall, Step, Steps, both-step, closing-movable, closing-stepped, movable, row-step, running-movable, running-stepped, stepped}
 use Rattle.account.proofs.Placed.{nothing-when}
 use Rattle.account.proofs.Rows.{changed-row}
-use Rattle.account.proofs.Sums.{Σ-less}
+use Rattle.terms.proofs.Sums.{Σ-less}
 use Rattle.account.proofs.Taken.{leaving}
 
 -- a term counted under two tests

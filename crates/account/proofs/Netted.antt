@@ -12,11 +12,11 @@ use Rattle.terms.specs.declared.kind.Side.the-variants.{Long, Short, Covered}
 use Rattle.rules.specs.Netting.{netted, againstShort, againstCovered}
 use Rattle.rules.proofs.Netting.{raises-none}
 use Rattle.account.specs.Rows.{noPosition, contract, position}
-use Rattle.account.specs.Sums.{_when_}
+use Rattle.terms.specs.Sums.{_when_}
 use Rattle.account.specs.Totals.{isOf, countOf, countIn, coveredUnits}
 use Rattle.account.specs.declared.account.Account.{Account}
 use Rattle.account.specs.declared.tables.Tables.{Tables}
-use Rattle.account.proofs.Sums.{Σ-less}
+use Rattle.terms.proofs.Sums.{Σ-less}
 
 pub nothing-netted : netted noPosition ≡ noPosition
 unfolding netted againstShort againstCovered

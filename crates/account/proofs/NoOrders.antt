@@ -10,14 +10,14 @@ use Rattle.terms.specs.declared.kind.OrderKind.the-variants.{SellClose, BuyClos
 use Rattle.account.specs.Money.{holdOf, holdsIn}
 use Rattle.account.specs.Rows.{free, noPosition, order}
 use Rattle.account.specs.Running.{allFree, closingOn, freeIn}
-use Rattle.account.specs.Sums.{Σ}
+use Rattle.terms.specs.Sums.{Σ}
 use Rattle.account.specs.Totals.{isOf, isKind, overOrders, restingIn, restingOn, reservedUnits}
 use Rattle.account.specs.declared.account.Account.{Account}
 use Rattle.account.specs.declared.account.Resting.{Resting}
 use Rattle.account.specs.declared.tables.Tables.{Tables}
 use Rattle.account.proofs.Placed.{nothing-when, nothing-held}
 use Rattle.account.proofs.Rows.{untouched}
-use Rattle.account.proofs.Sums.{Σ-none}
+use Rattle.terms.proofs.Sums.{Σ-none}
 
 -- what is so where no order rests
 pub record NoOrders (t : Tables) (a : Account) : Type 0 where

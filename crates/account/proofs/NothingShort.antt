@@ -16,12 +16,12 @@ use Rattle.account.specs.Locks.{unitsAllowed, unlockVerdict}
 use Rattle.account.specs.Money.{kindOf}
 use Rattle.account.specs.Rows.{contract, holding, order}
 use Rattle.account.specs.Sound.{Sound}
-use Rattle.account.specs.Sums.{_when_}
+use Rattle.terms.specs.Sums.{_when_}
 use Rattle.account.specs.Totals.{countOf, isKind, coveredUnits, reservedUnits, spareUnits}
 use Rattle.account.specs.Transfers.{withdrawVerdict}
 use Rattle.account.specs.declared.account.Account.{Account}
 use Rattle.account.specs.declared.judged.Named.{Named}
-use Rattle.account.specs.declared.judged.Verdict.the-variants.{Accepted}
+use Rattle.terms.specs.declared.verdict.Verdict.the-variants.{Accepted}
 use Rattle.account.specs.declared.tables.Tables.{Tables}
 use Rattle.account.proofs.CancelSound as cancels
 use Rattle.account.proofs.FillSound as fills

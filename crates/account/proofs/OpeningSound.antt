@@ -15,14 +15,14 @@ use Rattle.account.specs.Opening.{opening}
 use Rattle.account.specs.Rows.{free, noHolding, noPosition, contract, position, holding}
 use Rattle.account.specs.Running.{noRunning, runningIn}
 use Rattle.account.specs.Sound.{SoundTables, Sound}
-use Rattle.account.specs.Sums.{Σ, _when_}
+use Rattle.terms.specs.Sums.{Σ, _when_}
 use Rattle.account.specs.Totals.{isOf, countOf, countIn, isKind, isOpen, restingIn, rightsIn, totalIn, coveredUnits, reservedUnits}
 use Rattle.account.specs.declared.tables.Tables.{Tables}
 use Rattle.account.proofs.Held.{Held}
 use Rattle.account.proofs.NoOrders.{all-free, closes-none, no-orders}
 use Rattle.account.proofs.Placed.{nothing-when}
 use Rattle.account.proofs.Rows.{untouched}
-use Rattle.account.proofs.Sums.{Σ-none}
+use Rattle.terms.proofs.Sums.{Σ-none}
 
 nothing-counted : (side : Side) → countOf side noPosition ≡ 0
 nothing-counted Long = refl

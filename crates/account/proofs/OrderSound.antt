@@ -24,11 +24,11 @@ use Rattle.account.specs.Checks.{orderVerdict}
 use Rattle.account.specs.Orders.{under, orderAllowed, freePlace, factsIn, factsOf, rested, orderChange}
 use Rattle.account.specs.Rows.{noPosition, contract, underlying, position, holding, order}
 use Rattle.account.specs.Sound.{SoundOrder, Sound}
-use Rattle.account.specs.Sums.{_when_}
+use Rattle.terms.specs.Sums.{_when_}
 use Rattle.account.specs.Totals.{isOf, countOf, countIn, isKind, isOpen, restingIn, restingOn, rightsIn, totalIn, coveredUnits, reservedUnits, spareUnits}
 use Rattle.account.specs.declared.account.Account.{Account}
 use Rattle.account.specs.declared.account.Resting.{Resting}
-use Rattle.account.specs.declared.judged.Verdict.the-variants.{Accepted}
+use Rattle.terms.specs.declared.verdict.Verdict.the-variants.{Accepted}
 use Rattle.account.specs.declared.tables.Tables.{Tables}
 use Rattle.account.proofs.Allowed.{contract-known, underlying-known}
 use Rattle.account.proofs.Held.{Held, sound-held}

@@ -22,7 +22,7 @@ use Rattle.account.specs.Money.{holdBy, holdOne, holdOf, holdsIn}
 use Rattle.account.specs.Orders.{under, freePlace, factsIn, rested, orderChange}
 use Rattle.account.specs.Rows.{free, noHolding, noPosition, contract, underlying, holding, order}
 use Rattle.account.specs.Sound.{Sound}
-use Rattle.account.specs.Sums.{_when_}
+use Rattle.terms.specs.Sums.{_when_}
 use Rattle.account.specs.Totals.{isOf, isKind, overOrders, restingIn, restingOn, reservedUnits}
 use Rattle.account.specs.declared.account.Account.{Account}
 use Rattle.account.specs.declared.account.Holding.{Holding}

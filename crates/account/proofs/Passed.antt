@@ -20,11 +20,11 @@ use Rattle.account.specs.Orders.{under, orderAllowed, freePlace, factsIn
 use Rattle.account.specs.Rows.{contract, underlying, position, holding}
 use Rattle.account.specs.Running.{closingOn}
 use Rattle.account.specs.Totals.{countOf, restingOn, rightsIn, totalIn, spareUnits}
-use Rattle.account.specs.Verdicts.{_else_then_}
+use Rattle.terms.specs.Verdicts.{_else_then_}
 use Rattle.account.specs.declared.account.Account.{Account}
 use Rattle.account.specs.declared.judged.Facts.{Facts}
-use Rattle.account.specs.declared.judged.Verdict.{Verdict}
-use Rattle.account.specs.declared.judged.Verdict.the-variants.{Accepted, Refused}
+use Rattle.terms.specs.declared.verdict.Verdict.{Verdict}
+use Rattle.terms.specs.declared.verdict.Verdict.the-variants.{Accepted, Refused}
 use Rattle.account.specs.declared.tables.Tables.{Tables}
 use Rattle.account.proofs.Available.{reaches}
 

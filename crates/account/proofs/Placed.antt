@@ -11,12 +11,12 @@ use lib.Seq.{getD-set-same, getD-set-other}
 use Rattle.rules.specs.Count.{forCount}
 use Rattle.account.specs.Money.{holdOf}
 use Rattle.account.specs.Rows.{free, order}
-use Rattle.account.specs.Sums.{_when_}
+use Rattle.terms.specs.Sums.{_when_}
 use Rattle.account.specs.Totals.{overOrders}
 use Rattle.account.specs.declared.account.Account.{Account}
 use Rattle.account.specs.declared.account.Resting.{Resting}
 use Rattle.account.specs.declared.tables.Tables.{Tables}
-use Rattle.account.proofs.Sums.{Σ-changed}
+use Rattle.terms.proofs.Sums.{Σ-changed}
 
 -- nothing, counted or not, is nothing: so much is left at a free place
 pub nothing-when : (test : Bool) → 0 when test ≡ 0

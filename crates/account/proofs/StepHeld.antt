@@ -8,7 +8,7 @@ use Rattle.account.specs.Fills.{named}
 use Rattle.account.specs.Locks.{lockChange, unlockChange}
 use Rattle.account.specs.Steps.{accountAfter, refusalOf, tablesAfter}
 use Rattle.account.specs.declared.account.Account.{Account}
-use Rattle.account.specs.declared.judged.Verdict.the-variants.{Accepted}
+use Rattle.terms.specs.declared.verdict.Verdict.the-variants.{Accepted}
 use Rattle.account.specs.declared.tables.Tables.{Tables}
 use Rattle.account.proofs.CancelSound.{cancel-held, cancel-there}
 use Rattle.account.proofs.DayEndSound.{day-end-held}

@@ -19,7 +19,7 @@ use Rattle.account.specs.Transfers.{depositChange, withdrawChange, payCh
 use Rattle.account.specs.declared.account.Account.{Account}
 use Rattle.account.specs.declared.account.Holding.{Holding}
 use Rattle.account.specs.declared.account.Sheet.{Sheet}
-use Rattle.account.specs.declared.judged.Verdict.the-variants.{Accepted}
+use Rattle.terms.specs.declared.verdict.Verdict.the-variants.{Accepted}
 use Rattle.account.specs.declared.judged.Waiting.{Waiting}
 use Rattle.account.specs.declared.tables.Tables.{Tables}
 use Rattle.account.proofs.CancelSound.{cancel-fits, cancel-sound, cancel-there}

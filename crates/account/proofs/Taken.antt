@@ -20,7 +20,7 @@ use Rattle.account.specs.Money.{holdOne, kindOf, holdOf, holdsIn}
 use Rattle.account.specs.Orders.{coveredPut, orderAllowed}
 use Rattle.account.specs.Rows.{free, contract, order}
 use Rattle.account.specs.Sound.{SoundOrder, Sound, asOrder}
-use Rattle.account.specs.Sums.{_when_}
+use Rattle.terms.specs.Sums.{_when_}
 use Rattle.account.specs.Totals.{isOf, isKind, overOrders, restingIn, restingOn, reservedUnits}
 use Rattle.account.specs.declared.account.Account.{Account}
 use Rattle.account.specs.declared.account.Resting.{Resting}

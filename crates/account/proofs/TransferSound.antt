@@ -18,7 +18,7 @@ use Rattle.account.specs.Sound.{Sound}
 use Rattle.account.specs.Transfers.{amountAllowed, depositVerdict, depositChange, withdrawVerdict, withdrawChange, payChange, dropChange}
 use Rattle.account.specs.declared.account.Account.{Account}
 use Rattle.account.specs.declared.account.Sheet.{Sheet}
-use Rattle.account.specs.declared.judged.Verdict.the-variants.{Accepted}
+use Rattle.terms.specs.declared.verdict.Verdict.the-variants.{Accepted}
 use Rattle.account.specs.declared.judged.Waiting.{Waiting}
 use Rattle.account.specs.declared.tables.Tables.{Tables}
 use Rattle.account.proofs.Available.{reaches}

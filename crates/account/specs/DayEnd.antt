@@ -4,6 +4,7 @@ use mathlib.Core.Bool.{Bool, true, cond, _&&_}
 use mathlib.Core.List.{List, [], _∷_, _++_, map}
 use lib.Dec.{eqb, ltb}
 use lib.ListN.{getD, replicate}
+use Rattle.terms.specs.Listed.{listed, every}
 use Rattle.terms.specs.Ranges.{rangeOf, _∈_}
 use Rattle.terms.specs.declared.measure.Measure.the-variants.{Price, Settlement}
 use Rattle.terms.specs.declared.refusal.Refusal.the-variants.{OutOfRange}
@@ -15,23 +16,13 @@ use Rattle.account.specs.Money.{marginIn}
 use Rattle.account.specs.Rows.{free, noPosition, contract, underlying, holding}
 use Rattle.account.specs.Running.{allFree, runningIn}
 use Rattle.account.specs.Totals.{coveredUnits}
-use Rattle.account.specs.Verdicts.{_else_then_}
+use Rattle.terms.specs.Verdicts.{_else_then_}
 use Rattle.account.specs.declared.account.Account.{Account}
 use Rattle.account.specs.declared.account.Holding.{Holding}
 use Rattle.account.specs.declared.account.Sheet.{Sheet}
-use Rattle.account.specs.declared.judged.Verdict.{Verdict}
-use Rattle.account.specs.declared.judged.Verdict.the-variants.{Accepted}
+use Rattle.terms.specs.declared.verdict.Verdict.{Verdict}
+use Rattle.terms.specs.declared.verdict.Verdict.the-variants.{Accepted}
 use Rattle.account.specs.declared.tables.Tables.{Tables}
-
--- f 0, f 1, .. below n, as a list (house)
-abbrev pub listed : {A : Type 0} → ℕ → (ℕ → A) → List A
-listed zero f = []
-listed (suc n) f = listed n f ++ f n ∷ []
-
--- does every number below n pass? (house)
-abbrev pub every : ℕ → (ℕ → Bool) → Bool
-every zero test = true
-every (suc n) test = every n test && test n
 
 -- the figures beside a day end, by the number of their contract and of their underlying (Records, kind 8)
 abbrev pub settlementOf : Figures → ℕ → ℕ

@@ -17,16 +17,16 @@ use Rattle.entries.specs.declared.entry.Fill.{Fill}
 use Rattle.account.specs.Changes.{withoutPosition}
 use Rattle.account.specs.Money.{holdOne, kindOf, marginOne}
 use Rattle.account.specs.Rows.{free, contract, position, holding, order}
-use Rattle.account.specs.Sums.{lowest, _when_}
+use Rattle.terms.specs.Sums.{lowest, _when_}
 use Rattle.account.specs.Totals.{isKind}
-use Rattle.account.specs.Verdicts.{_else_then_}
+use Rattle.terms.specs.Verdicts.{_else_then_}
 use Rattle.account.specs.declared.account.Account.{Account}
 use Rattle.account.specs.declared.account.Resting.{Resting}
 use Rattle.account.specs.declared.account.Sheet.{Sheet}
 use Rattle.account.specs.declared.judged.Change.{Change}
 use Rattle.account.specs.declared.judged.Named.{Named}
-use Rattle.account.specs.declared.judged.Verdict.{Verdict}
-use Rattle.account.specs.declared.judged.Verdict.the-variants.{Accepted}
+use Rattle.terms.specs.declared.verdict.Verdict.{Verdict}
+use Rattle.terms.specs.declared.verdict.Verdict.the-variants.{Accepted}
 use Rattle.account.specs.declared.judged.Waiting.the-variants.{Stays}
 use Rattle.account.specs.declared.tables.Tables.{Tables}
 

@@ -14,7 +14,5 @@ pub mod Running
 pub mod Seen
 pub mod Sound
 pub mod Steps
-pub mod Sums
 pub mod Totals
 pub mod Transfers
-pub mod Verdicts

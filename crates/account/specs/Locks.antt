@@ -8,12 +8,12 @@ use Rattle.terms.specs.declared.measure.Measure.the-variants.{UnitsAtOnce, Lock
 use Rattle.terms.specs.declared.refusal.Refusal.the-variants.{OutOfRange, CeilingPassed, SpareTooFew}
 use Rattle.account.specs.Changes.{withoutPosition}
 use Rattle.account.specs.Rows.{free, holding}
-use Rattle.account.specs.Verdicts.{_else_then_}
+use Rattle.terms.specs.Verdicts.{_else_then_}
 use Rattle.account.specs.declared.account.Account.{Account}
 use Rattle.account.specs.declared.account.Holding.{Holding}
 use Rattle.account.specs.declared.judged.Change.{Change}
-use Rattle.account.specs.declared.judged.Verdict.{Verdict}
-use Rattle.account.specs.declared.judged.Verdict.the-variants.{Accepted}
+use Rattle.terms.specs.declared.verdict.Verdict.{Verdict}
+use Rattle.terms.specs.declared.verdict.Verdict.the-variants.{Accepted}
 use Rattle.account.specs.declared.judged.Waiting.the-variants.{Stays}
 use Rattle.account.specs.declared.tables.Tables.{Tables}
 

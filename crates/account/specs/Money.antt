@@ -12,7 +12,7 @@ use Rattle.rules.specs.Premium.{premiumOf}
 use Rattle.entries.specs.declared.entry.Contract.{Contract}
 use Rattle.entries.specs.declared.entry.Underlying.{Underlying}
 use Rattle.account.specs.Rows.{contract, underlying, position}
-use Rattle.account.specs.Sums.{Σ}
+use Rattle.terms.specs.Sums.{Σ}
 use Rattle.account.specs.Totals.{overOrders}
 use Rattle.account.specs.declared.account.Account.{Account}
 use Rattle.account.specs.declared.account.Resting.{Resting}

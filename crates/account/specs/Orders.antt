@@ -19,7 +19,7 @@ use Rattle.account.specs.Changes.{withoutPosition}
 use Rattle.account.specs.Money.{holdOne, availableOf}
 use Rattle.account.specs.Rows.{noUnderlying, noHolding, contract, underlying, position, holding, order}
 use Rattle.account.specs.Running.{closingOn}
-use Rattle.account.specs.Sums.{lowest, _when_}
+use Rattle.terms.specs.Sums.{lowest, _when_}
 use Rattle.account.specs.Totals.{countOf, isKind, rightsIn, totalIn, spareUnits}
 use Rattle.account.specs.declared.account.Account.{Account}
 use Rattle.account.specs.declared.account.Holding.{Holding}

@@ -8,7 +8,7 @@ use Rattle.terms.specs.declared.count.Position.{Position}
 use Rattle.terms.specs.declared.kind.OrderKind.the-variants.{BuyOpen, SellClose, BuyClose, CoveredOpen, CoveredClose}
 use Rattle.terms.specs.declared.kind.Side.the-variants.{Long}
 use Rattle.account.specs.Rows.{noPosition, order}
-use Rattle.account.specs.Sums.{Σ, _when_}
+use Rattle.terms.specs.Sums.{Σ, _when_}
 use Rattle.account.specs.Totals.{countIn, isKind, isOpen, restingIn, restingOn, totalIn, coveredUnits, reservedUnits}
 use Rattle.account.specs.declared.account.Account.{Account}
 use Rattle.account.specs.declared.account.Resting.{Resting}

@@ -11,7 +11,7 @@ use Rattle.terms.specs.declared.kind.OrderKind.the-variants.{BuyOpen, SellOpen,
 use Rattle.terms.specs.declared.kind.Side.{Side}
 use Rattle.terms.specs.declared.kind.Side.the-variants.{Long, Short, Covered}
 use Rattle.account.specs.Rows.{contract, position, holding, order}
-use Rattle.account.specs.Sums.{Σ, _when_}
+use Rattle.terms.specs.Sums.{Σ, _when_}
 use Rattle.account.specs.declared.account.Account.{Account}
 use Rattle.account.specs.declared.account.Resting.{Resting}
 use Rattle.account.specs.declared.tables.Tables.{Tables}

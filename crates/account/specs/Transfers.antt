@@ -9,11 +9,11 @@ use Rattle.terms.specs.declared.measure.Measure.the-variants.{Transfer, Money}
 use Rattle.terms.specs.declared.refusal.Refusal.the-variants.{OutOfRange, CeilingPassed, AvailablePassed, NothingWaiting, AlreadyWaiting}
 use Rattle.account.specs.Changes.{ofSheet}
 use Rattle.account.specs.Money.{availableOf}
-use Rattle.account.specs.Verdicts.{_else_then_}
+use Rattle.terms.specs.Verdicts.{_else_then_}
 use Rattle.account.specs.declared.account.Sheet.{Sheet}
 use Rattle.account.specs.declared.judged.Change.{Change}
-use Rattle.account.specs.declared.judged.Verdict.{Verdict}
-use Rattle.account.specs.declared.judged.Verdict.the-variants.{Accepted}
+use Rattle.terms.specs.declared.verdict.Verdict.{Verdict}
+use Rattle.terms.specs.declared.verdict.Verdict.the-variants.{Accepted}
 use Rattle.account.specs.declared.judged.Waiting.the-variants.{Stays, Becomes}
 
 -- "deposit or withdrawal 1 to 10^13" (Numbers)

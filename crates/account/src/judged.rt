@@ -11,26 +11,9 @@ use terms::Contracts;
 use terms::Position;
 use terms::Refusal;
 use terms::Units;
+use terms::Verdict;
 ghost use mathlib.Core.Path.{_≡_};
 ghost use Rattle.account.specs.Changes.{ofSheet, verdictIn, waitingAfter, withoutPosition};
-ghost use Rattle.account.specs.Verdicts.{numberIn};
-
-pub enum Verdict {
-    Accepted,
-    Refused(Refusal),
-}
-
-impl Verdict {
-    // As the paper counts: 0, or the refusal's number.
-    pub fn number(self) -> u8
-        ensures { λ r. ⌜ r ≡ numberIn self ⌝ }
-    {
-        match self {
-            Verdict::Accepted => 0,
-            Verdict::Refused(why) => why.number(),
-        }
-    }
-}
 
 // What an entry is judged by, read off tables and account where it names them: how many underlyings and contracts there are, the money, the
 // numbers, and the rows of one place, one contract and one underlying. Where it names none, the first row stands there and is not asked.

@@ -16,7 +16,6 @@ pub use judged::Facts;
 pub use judged::Named;
 pub use judged::Outcome;
 pub use judged::Seen;
-pub use judged::Verdict;
 pub use judged::Waiting;
 pub use running::Running;
 pub use tables::Tables;

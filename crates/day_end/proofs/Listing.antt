@@ -10,8 +10,8 @@ use borrow.Author.Tests.{lt-ltb, le-ltb}
 use lib.Dec.{ltb}
 use lib.ListN.{length, getD, set, length-set, length-map, List·getD-map}
 use lib.Seq.{ext-getD, getD-set-same, getD-set-other}
-use Rattle.account.specs.DayEnd.{listed}
-use Rattle.account.proofs.Listed.{listed-length, listed-at}
+use Rattle.terms.specs.Listed.{listed}
+use Rattle.terms.proofs.Listed.{listed-length, listed-at}
 use Rattle.day_end.specs.Passes.{changedTo}
 
 same-test : (j k : ℕ) → j ≢ k → ltb j k ≡ ltb j (k + 1)

@@ -9,7 +9,7 @@ use Rattle.terms.specs.declared.count.Position.{Position}
 use Rattle.rules.specs.Count.{forCount}
 use Rattle.account.specs.Money.{marginOne}
 use Rattle.account.specs.Rows.{noPosition, contract, underlying}
-use Rattle.account.specs.Sums.{Σ}
+use Rattle.terms.specs.Sums.{Σ}
 use Rattle.account.specs.declared.tables.Tables.{Tables}
 use Rattle.account.proofs.Bounds.{figures-allowed}
 use Rattle.money.specs.Charged.{marginCharged}

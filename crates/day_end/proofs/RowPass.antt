@@ -8,12 +8,12 @@ use native.Mathlib.Numerals.{add-one}
 use native.Mathlib.Omega.{arith}
 use borrow.Author.Tests.{eq-eqb, ne-eqb}
 use lib.ListN.{getD, set}
-use Rattle.account.specs.DayEnd.{listed}
+use Rattle.terms.specs.Listed.{listed}
 use Rattle.account.specs.Rows.{contract}
-use Rattle.account.specs.Sums.{Σ, _when_}
+use Rattle.terms.specs.Sums.{Σ, _when_}
 use Rattle.account.specs.Totals.{isOf}
 use Rattle.account.specs.declared.tables.Tables.{Tables}
-use Rattle.account.proofs.Listed.{listed-at}
+use Rattle.terms.proofs.Listed.{listed-at}
 use Rattle.day_end.proofs.Listing.{listed-set}
 
 -- the underlying of the contract at k

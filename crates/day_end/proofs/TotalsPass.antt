@@ -10,7 +10,7 @@ use Rattle.terms.specs.declared.kind.Side.{Side}
 use Rattle.terms.specs.declared.kind.Side.the-variants.{Long, Short, Covered}
 use Rattle.account.specs.Rows.{noPosition, contract}
 use Rattle.account.specs.Running.{noRunning}
-use Rattle.account.specs.Sums.{Σ}
+use Rattle.terms.specs.Sums.{Σ}
 use Rattle.account.specs.Totals.{countOf}
 use Rattle.account.specs.declared.running.Running.{Running}
 use Rattle.account.specs.declared.tables.Tables.{Tables}

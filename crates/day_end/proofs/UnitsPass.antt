@@ -8,7 +8,7 @@ use lib.ListN.{getD, set, replicate}
 use Rattle.terms.specs.Counts.{unitsFor}
 use Rattle.terms.specs.declared.count.Position.{Position}
 use Rattle.account.specs.Rows.{noHolding, noPosition, contract}
-use Rattle.account.specs.Sums.{Σ}
+use Rattle.terms.specs.Sums.{Σ}
 use Rattle.account.specs.declared.account.Holding.{Holding}
 use Rattle.account.specs.declared.tables.Tables.{Tables}
 use Rattle.day_end.specs.Passes.{Summed, ofUnits, unitsTo, withUnits, holdingsTo}

@@ -4,7 +4,7 @@ use Rattle.entries.specs.declared.entry.Figures.{Figures}
 use Rattle.account.specs.DayEnd.{dayEndVerdict, dayEnded, figuresInstalled}
 use Rattle.account.specs.declared.account.Account.{Account}
 use Rattle.account.specs.declared.judged.Outcome.{Outcome}
-use Rattle.account.specs.declared.judged.Verdict.the-variants.{Accepted}
+use Rattle.terms.specs.declared.verdict.Verdict.the-variants.{Accepted}
 use Rattle.account.specs.declared.tables.Tables.{Tables}
 
 -- figures with which a day end of as many rows as the tables have is accepted

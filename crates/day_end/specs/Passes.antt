@@ -10,11 +10,11 @@ use Rattle.terms.specs.declared.count.Position.{Position}
 use Rattle.terms.specs.declared.kind.Side.{Side}
 use Rattle.terms.specs.declared.kind.Side.the-variants.{Long, Short, Covered}
 use Rattle.rules.specs.Count.{forCount}
-use Rattle.account.specs.DayEnd.{listed}
+use Rattle.terms.specs.Listed.{listed}
 use Rattle.account.specs.Money.{marginOne}
 use Rattle.account.specs.Rows.{noPosition, contract}
 use Rattle.account.specs.Sound.{SoundTables}
-use Rattle.account.specs.Sums.{Σ, _when_}
+use Rattle.terms.specs.Sums.{Σ, _when_}
 use Rattle.account.specs.Totals.{countOf, isOf}
 use Rattle.account.specs.declared.account.Holding.{Holding}
 use Rattle.account.specs.declared.running.Running.{Running}

@@ -13,7 +13,7 @@ use Rattle.account.specs.Money.{holdsIn, marginIn}
 use Rattle.account.specs.Rows.{holding, position, underlying}
 use Rattle.account.specs.Running.{closing, closingOn, freeIn, running, runningIn}
 use Rattle.account.specs.Totals.{rightsIn, totalIn}
-use Rattle.account.specs.Verdicts.{numberIn}
+use Rattle.terms.specs.Verdicts.{numberIn}
 use Rattle.account.specs.declared.account.Account.{Account}
 use Rattle.account.specs.declared.tables.Tables.{Tables}
 use Rattle.set_up.specs.Sound.{SoundBook}

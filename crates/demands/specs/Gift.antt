@@ -11,7 +11,7 @@ use Rattle.account.specs.Rows.{holding, underlying}
 use Rattle.account.specs.declared.account.Account.{Account}
 use Rattle.account.specs.declared.account.Sheet.{Sheet}
 use Rattle.account.specs.declared.judged.Outcome.{Outcome}
-use Rattle.account.specs.declared.judged.Verdict.the-variants.{Accepted}
+use Rattle.terms.specs.declared.verdict.Verdict.the-variants.{Accepted}
 use Rattle.account.specs.declared.tables.Tables.{Tables}
 use Rattle.demands.specs.Each.{Each, EachPair}
 

@@ -16,7 +16,7 @@ use Rattle.reading.specs.declared.Answer.the-variants as Answer·of
 use Rattle.reading.specs.declared.Reading.{Reading}
 use Rattle.account.specs.Rows.{underlying}
 use Rattle.account.specs.Sound.{underlyingAllowed}
-use Rattle.account.specs.declared.judged.Verdict.the-variants.{Accepted}
+use Rattle.terms.specs.declared.verdict.Verdict.the-variants.{Accepted}
 use Rattle.account.specs.declared.tables.Tables.{Tables}
 use Rattle.set_up.specs.declared.stages.Book.{Book}
 use Rattle.set_up.specs.declared.stages.Stage.the-variants.{Entries}

@@ -10,7 +10,7 @@ use Rattle.entries.specs.Table.{fieldsOf, isDayEnd}
 use Rattle.entries.specs.declared.entry.Entry.{Entry}
 use Rattle.entries.specs.declared.entry.Figures.{Figures}
 use Rattle.account.specs.Money.{availableOf}
-use Rattle.account.specs.Verdicts.{numberIn}
+use Rattle.terms.specs.Verdicts.{numberIn}
 use Rattle.account.specs.declared.judged.Outcome.{Outcome}
 use Rattle.writing.specs.Writing.{countsBarred, mOf, nOf, recordOf}
 

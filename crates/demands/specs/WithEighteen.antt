@@ -16,10 +16,10 @@ use Rattle.reading.specs.declared.Answer.the-variants as Answer·of
 use Rattle.reading.specs.declared.Reading.{Reading}
 use Rattle.account.specs.Fills.{named, paid, priceAllowed}
 use Rattle.account.specs.Money.{kindOf}
-use Rattle.account.specs.Verdicts.{_else_then_}
+use Rattle.terms.specs.Verdicts.{_else_then_}
 use Rattle.account.specs.declared.judged.Named.{Named}
-use Rattle.account.specs.declared.judged.Verdict.{Verdict}
-use Rattle.account.specs.declared.judged.Verdict.the-variants.{Accepted}
+use Rattle.terms.specs.declared.verdict.Verdict.{Verdict}
+use Rattle.terms.specs.declared.verdict.Verdict.the-variants.{Accepted}
 use Rattle.set_up.specs.Stages.{bookAfter, enteredAs, inPlace, newBook, recordVerdict}
 use Rattle.set_up.specs.declared.stages.Book.{Book}
 use Rattle.desk.specs.Runs.{Answered, Ran, answerBy, answerFor, runBy}

@@ -20,11 +20,11 @@ use Rattle.account.specs.Money.{availableOf}
 use Rattle.account.specs.Opening.{opening}
 use Rattle.account.specs.Rows.{noContract, noUnderlying}
 use Rattle.account.specs.Steps.{runBy, step}
-use Rattle.account.specs.Verdicts.{numberIn}
+use Rattle.terms.specs.Verdicts.{numberIn}
 use Rattle.account.specs.declared.account.Account.{Account}
 use Rattle.account.specs.declared.judged.Outcome.{Outcome}
-use Rattle.account.specs.declared.judged.Verdict.{Verdict}
-use Rattle.account.specs.declared.judged.Verdict.the-variants.{Accepted, Refused}
+use Rattle.terms.specs.declared.verdict.Verdict.{Verdict}
+use Rattle.terms.specs.declared.verdict.Verdict.the-variants.{Accepted, Refused}
 use Rattle.account.specs.declared.tables.Tables.{Tables}
 use Rattle.desk.proofs.run_list.Reads as run-list
 use Rattle.demands.specs.Gift.{Desk, richer}

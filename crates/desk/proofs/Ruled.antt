@@ -10,8 +10,8 @@ use Rattle.reading.specs.declared.Answer.{Answer}
 use Rattle.reading.specs.declared.Answer.the-variants.{Found, Refused}
 use Rattle.reader.specs.Reader.{foundAt, nextPlace}
 use Rattle.entries.specs.declared.entry.Figures.{Figures}
-use Rattle.account.specs.Verdicts.{numberIn}
-use Rattle.account.specs.declared.judged.Verdict.{Verdict}
+use Rattle.terms.specs.Verdicts.{numberIn}
+use Rattle.terms.specs.declared.verdict.Verdict.{Verdict}
 use Rattle.set_up.specs.Rulings.{RestsOn, ruledBy, rulingOn, verdictOn}
 use Rattle.set_up.specs.Sound.{SoundBook}
 use Rattle.set_up.specs.declared.ruling.Ruling.{Ruling}

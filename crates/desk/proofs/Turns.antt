@@ -14,7 +14,7 @@ use lib.Seq.{sets, sets-eq, length-sets}
 use Rattle.terms.proofs.Ranges.{first-holds, second-holds}
 use Rattle.reading.specs.Reading.{readAt}
 use Rattle.reader.specs.Reader.{foundAt}
-use Rattle.account.specs.declared.judged.Verdict.{Verdict}
+use Rattle.terms.specs.declared.verdict.Verdict.{Verdict}
 use Rattle.set_up.specs.declared.stages.Book.{Book}
 use Rattle.desk.specs.Runs.{Answered, Ran, answerTo, ended, stoppedAt, _before_, runFrom, told, numbersLeft, sumsLeft}
 

@@ -13,10 +13,10 @@ use Rattle.reading.specs.declared.Answer.the-variants as Answer·of
 use Rattle.reading.specs.declared.Reading.{Reading}
 use Rattle.reader.specs.Reader.{foundAt}
 use Rattle.account.specs.Money.{availableOf}
-use Rattle.account.specs.Verdicts.{numberIn}
+use Rattle.terms.specs.Verdicts.{numberIn}
 use Rattle.account.specs.declared.account.Sheet.{Sheet}
-use Rattle.account.specs.declared.judged.Verdict.{Verdict}
-use Rattle.account.specs.declared.judged.Verdict.the-variants.{Accepted, Refused}
+use Rattle.terms.specs.declared.verdict.Verdict.{Verdict}
+use Rattle.terms.specs.declared.verdict.Verdict.the-variants.{Accepted, Refused}
 use Rattle.account.specs.declared.tables.Tables.{Tables}
 use Rattle.rows.specs.Given.{listVerdict}
 use Rattle.set_up.specs.Stages.{Entered, entered, newBook, opened, waiting}

@@ -3,7 +3,6 @@ mod available;
 
 use account::Seen;
 use account::Tables;
-use account::Verdict;
 use available::available_in;
 use gathering::place_of;
 use gathering::row;
@@ -14,6 +13,7 @@ use set_up::Book;
 use set_up::Ruling;
 use set_up::renewed;
 use set_up::rule;
+use terms::Verdict;
 ghost use mathlib.Core.Path.{_≡_};
 ghost use Rattle.set_up.specs.Sound.{SoundBook};
 ghost use Rattle.rows.specs.Given.{listVerdict};

@@ -4,7 +4,6 @@ mod shown;
 
 use account::Account;
 use account::Outcome;
-use account::Verdict;
 use asked::entry;
 use asked::figures;
 use lines::input::field;
@@ -16,6 +15,7 @@ use shown::show;
 use steps::step;
 use terms::Measure;
 use terms::Refusal;
+use terms::Verdict;
 ghost use Prim.Native.Nat.{_≤_};
 ghost use Rattle.account.specs.Sound.{Sound};
 

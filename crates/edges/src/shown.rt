@@ -4,12 +4,12 @@ use account::Account;
 use account::Holding;
 use account::Resting;
 use account::Sheet;
-use account::Verdict;
 use lines::output::number;
 use lines::output::signed;
 use lines::output::text;
 use money::available;
 use terms::Position;
+use terms::Verdict;
 ghost use Rattle.account.specs.Sound.{SoundSheet};
 
 // The rows one after the other: positions, holdings, order places.

@@ -20,7 +20,7 @@ use Rattle.account.specs.Orders.{orderAllowed}
 use Rattle.account.specs.Sound.{Sound, asOrder}
 use Rattle.account.specs.declared.account.Account.{Account}
 use Rattle.account.specs.declared.judged.Named.{Named}
-use Rattle.account.specs.declared.judged.Verdict.the-variants.{Accepted}
+use Rattle.terms.specs.declared.verdict.Verdict.the-variants.{Accepted}
 use Rattle.account.specs.declared.tables.Tables.{Tables}
 use Rattle.account.proofs.Allowed.{contract-known}
 use Rattle.account.proofs.Bounds.{count-of, one-hold, one-margin, one-premium, order-figures, row-of, sheet-sound}

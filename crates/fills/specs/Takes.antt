@@ -11,10 +11,10 @@ use Rattle.terms.specs.declared.measure.Measure.the-variants.{Price, Quantity}
 use Rattle.entries.specs.declared.entry.Fill.{Fill}
 use Rattle.account.specs.Fills.{fillVerdict, paid}
 use Rattle.account.specs.Money.{kindOf}
-use Rattle.account.specs.Sums.{_when_}
+use Rattle.terms.specs.Sums.{_when_}
 use Rattle.account.specs.Totals.{countOf, isKind}
 use Rattle.account.specs.declared.judged.Named.{Named}
-use Rattle.account.specs.declared.judged.Verdict.the-variants.{Accepted}
+use Rattle.terms.specs.declared.verdict.Verdict.the-variants.{Accepted}
 
 -- a number that may be shifted up or down by another: up it fits so many bits, down there is so much
 pub record Shifts (bits : ℕ) (up : Bool) (x by : ℕ) : Type 0 where

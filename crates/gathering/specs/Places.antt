@@ -5,7 +5,7 @@ use mathlib.Core.List.{List}
 use lib.Dec.{eqb}
 use lib.ListN.{getD}
 use Rattle.account.specs.Rows.{free}
-use Rattle.account.specs.Sums.{lowest}
+use Rattle.terms.specs.Sums.{lowest}
 use Rattle.account.specs.declared.account.Resting.{Resting}
 
 abbrev pub placeAmong : List Resting → ℕ → ℕ

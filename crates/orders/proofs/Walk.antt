@@ -11,10 +11,10 @@ use Rattle.terms.specs.declared.refusal.Refusal.{Refusal}
 use Rattle.terms.specs.declared.kind.OrderKind.the-variants.{BuyOpen, SellClose, SellOpen, BuyClose, CoveredOpen, CoveredClose}
 use Rattle.entries.specs.declared.entry.Order.{Order}
 use Rattle.account.specs.Checks.{Check, Available, columns, flags, meets, orderVerdict, passes, refusalFor}
-use Rattle.account.specs.Verdicts.{_else_then_}
+use Rattle.terms.specs.Verdicts.{_else_then_}
 use Rattle.account.specs.declared.judged.Facts.{Facts}
-use Rattle.account.specs.declared.judged.Verdict.{Verdict}
-use Rattle.account.specs.declared.judged.Verdict.the-variants.{Accepted, Refused}
+use Rattle.terms.specs.declared.verdict.Verdict.{Verdict}
+use Rattle.terms.specs.declared.verdict.Verdict.the-variants.{Accepted, Refused}
 
 -- n columns from column i on, of the row that begins at a place of the table
 abbrev pub walkAt : ℕ → ℕ → List Bool → ℕ → Verdict

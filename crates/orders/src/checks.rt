@@ -1,9 +1,9 @@
 // The verdict on an order, by its facts.
 use account::Facts;
-use account::Verdict;
 use entries::Order;
 use money::within;
 use terms::Refusal;
+use terms::Verdict;
 ghost use mathlib.Core.Path.{_≡_};
 ghost use mathlib.Core.List.{map};
 ghost use Prim.Native.Nat.{_+_};

@@ -4,12 +4,12 @@ mod checks;
 
 use account::Decision;
 use account::Seen;
-use account::Verdict;
 use change::change;
 use checks::verdict;
 use entries::Entry;
 use entries::Order;
 use gathering::gather;
+use terms::Verdict;
 ghost use mathlib.Core.Path.{_≡_};
 ghost use Rattle.account.specs.Changes.{decided};
 ghost use Rattle.account.specs.Checks.{orderVerdict};

@@ -5,12 +5,12 @@ use lib.Dec.{leb, ltb}
 use Rattle.terms.specs.Ranges.{rangeOf, _∈_}
 use Rattle.terms.specs.declared.measure.Measure.the-variants.{OpeningCash}
 use Rattle.terms.specs.declared.refusal.Refusal.the-variants.{OutOfRange, OutOfPlace}
-use Rattle.account.specs.DayEnd.{every}
+use Rattle.terms.specs.Listed.{every}
 use Rattle.account.specs.Rows.{contract, underlying}
 use Rattle.account.specs.Sound.{contractAllowed, underlyingAllowed}
-use Rattle.account.specs.Verdicts.{_else_then_}
-use Rattle.account.specs.declared.judged.Verdict.{Verdict}
-use Rattle.account.specs.declared.judged.Verdict.the-variants.{Accepted}
+use Rattle.terms.specs.Verdicts.{_else_then_}
+use Rattle.terms.specs.declared.verdict.Verdict.{Verdict}
+use Rattle.terms.specs.declared.verdict.Verdict.the-variants.{Accepted}
 use Rattle.account.specs.declared.tables.Tables.{Tables}
 
 -- "up to 8 underlyings, 64 contracts", and the values of each in their ranges; rows past m and n are no part of the tables (Numbers)

@@ -2,17 +2,17 @@
 mod values;
 
 use account::Tables;
-use account::Verdict;
 use entries::Contract;
 use entries::Underlying;
 use terms::Measure;
 use terms::Refusal;
+use terms::Verdict;
 pub use values::contract_allowed;
 pub use values::underlying_allowed;
 ghost use mathlib.Core.Path.{_≡_};
 ghost use Prim.Native.Nat.{_≤_};
 ghost use lib.ListN.{getD};
-ghost use Rattle.account.specs.DayEnd.{every};
+ghost use Rattle.terms.specs.Listed.{every};
 ghost use Rattle.account.specs.Rows.{noContract, noUnderlying};
 ghost use Rattle.account.specs.Sound.{contractAllowed, underlyingAllowed};
 ghost use Rattle.rows.specs.Given.{listVerdict};

@@ -16,12 +16,12 @@ use Rattle.entries.specs.declared.entry.Figures.{Figures}
 use Rattle.account.specs.Changes.{verdictIn}
 use Rattle.account.specs.Sound.{contractAllowed, underlyingAllowed}
 use Rattle.account.specs.Steps.{accountAfter, outcome, refusalOf, step, tablesAfter}
-use Rattle.account.specs.Verdicts.{_else_then_}
+use Rattle.terms.specs.Verdicts.{_else_then_}
 use Rattle.account.specs.declared.judged.Decision.{Decision}
 use Rattle.account.specs.declared.judged.Decision.the-variants as Decision·of
-use Rattle.account.specs.declared.judged.Verdict as Verdict·of
-use Rattle.account.specs.declared.judged.Verdict.the-variants.{Accepted}
-use Rattle.account.specs.declared.judged.Verdict.the-variants as Verdict
+use Rattle.terms.specs.declared.verdict.Verdict as Verdict·of
+use Rattle.terms.specs.declared.verdict.Verdict.the-variants.{Accepted}
+use Rattle.terms.specs.declared.verdict.Verdict.the-variants as Verdict
 use Rattle.steps.specs.Booked.{Rests, bookedBy, decisionOn}
 use Rattle.steps.proofs.Booking.{rests, stepped, verdict-decided}
 use Rattle.set_up.specs.Rulings.{RestsOn, contractRuling, ofDecision, openWith, openingRuling, ruledAs, ruledBy, rulingOn, underlyingRuling, verdictOn}

@@ -17,17 +17,17 @@ use Rattle.entries.specs.declared.entry.Entry.{Entry}
 use Rattle.entries.specs.declared.entry.Entry.the-variants.{Underlying, Contract}
 use Rattle.entries.specs.declared.entry.Figures.{Figures}
 use Rattle.entries.specs.declared.entry.Underlying as Underlyings·of
-use Rattle.account.specs.DayEnd.{every}
+use Rattle.terms.specs.Listed.{every}
 use Rattle.account.specs.Rows.{contract, noContract, noUnderlying}
 use Rattle.account.specs.Sound.{Sound, SoundTables, contractAllowed, underlyingAllowed}
 use Rattle.account.specs.Steps.{accountAfter, outcome, refusalOf, step, tablesAfter}
-use Rattle.account.specs.Verdicts.{_else_then_}
+use Rattle.terms.specs.Verdicts.{_else_then_}
 use Rattle.account.specs.declared.judged.Outcome.{Outcome}
-use Rattle.account.specs.declared.judged.Verdict.{Verdict}
-use Rattle.account.specs.declared.judged.Verdict.the-variants.{Accepted, Refused}
+use Rattle.terms.specs.declared.verdict.Verdict.{Verdict}
+use Rattle.terms.specs.declared.verdict.Verdict.the-variants.{Accepted, Refused}
 use Rattle.account.specs.declared.tables.Tables.{Tables}
 use Rattle.account.proofs.Bounds.{four}
-use Rattle.account.proofs.Listed.{each-passes}
+use Rattle.terms.proofs.Listed.{each-passes}
 use Rattle.account.proofs.OpeningSound.{opening-sound}
 use Rattle.account.proofs.Passed.{went-on}
 use Rattle.account.proofs.Rows.{row-added}

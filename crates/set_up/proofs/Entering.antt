@@ -13,8 +13,8 @@ use Rattle.entries.specs.declared.entry.Entry.the-variants.{Deposit, Withdraw, 
 use Rattle.entries.specs.declared.entry.Figures.{Figures}
 use Rattle.entries.specs.declared.entry.Underlying as Underlyings·of
 use Rattle.account.specs.Steps.{refusalOf}
-use Rattle.account.specs.declared.judged.Verdict.{Verdict}
-use Rattle.account.specs.declared.judged.Verdict.the-variants.{Accepted, Refused}
+use Rattle.terms.specs.declared.verdict.Verdict.{Verdict}
+use Rattle.terms.specs.declared.verdict.Verdict.the-variants.{Accepted, Refused}
 use Rattle.set_up.specs.Stages.{bookAfter, bySetUp, contractVerdict, entered, enteredAs, inPlace, opened, openingVerdict, recordVerdict, underlyingVerdict, withContract, withEntry, withUnderlying}
 use Rattle.set_up.specs.declared.stages.Book.{Book}
 use Rattle.set_up.specs.declared.stages.Stage.{Stage}

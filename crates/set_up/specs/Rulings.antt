@@ -13,13 +13,13 @@ use Rattle.entries.specs.declared.entry.Underlying as Underlying·of
 use Rattle.account.specs.Changes.{applied}
 use Rattle.account.specs.Room.{Movable}
 use Rattle.account.specs.Sound.{contractAllowed, underlyingAllowed}
-use Rattle.account.specs.Verdicts.{_else_then_}
+use Rattle.terms.specs.Verdicts.{_else_then_}
 use Rattle.account.specs.declared.judged.Decision.{Decision}
 use Rattle.account.specs.declared.judged.Decision.the-variants as Decision·of
 use Rattle.account.specs.declared.judged.Outcome.{Outcome}
-use Rattle.account.specs.declared.judged.Verdict as Verdict·of
-use Rattle.account.specs.declared.judged.Verdict.the-variants.{Accepted}
-use Rattle.account.specs.declared.judged.Verdict.the-variants as Verdict
+use Rattle.terms.specs.declared.verdict.Verdict as Verdict·of
+use Rattle.terms.specs.declared.verdict.Verdict.the-variants.{Accepted}
+use Rattle.terms.specs.declared.verdict.Verdict.the-variants as Verdict
 use Rattle.day_end.specs.Ended.{FiguresTaken, endedOn}
 use Rattle.steps.specs.Booked.{decisionOn}
 use Rattle.set_up.specs.Stages.{bySetUp, inPlace, opened, openingVerdict, withContract, withUnderlying}

@@ -11,7 +11,7 @@ use Rattle.account.specs.declared.account.Account.{Account}
 use Rattle.account.specs.declared.judged.Decision.{Decision}
 use Rattle.account.specs.declared.judged.Decision.the-variants as Decision·of
 use Rattle.account.specs.declared.judged.Outcome.{Outcome}
-use Rattle.account.specs.declared.judged.Verdict.the-variants.{Accepted, Refused}
+use Rattle.terms.specs.declared.verdict.Verdict.the-variants.{Accepted, Refused}
 use Rattle.account.specs.declared.tables.Tables.{Tables}
 use Rattle.day_end.specs.Ended.{FiguresTaken, endedOn}
 

@@ -1,23 +1,26 @@
--- The reasons have distinct numbers, and these are 1 to 20 in the paper's order: the list of all reasons has each at its number's place, which computes.
+-- The reasons have distinct numbers, and these are 1 to 20, 22 and 23 in the paper's order: a list has each at its number's place, which computes.
 use mathlib.Core.Path.{_≡_, refl, sym, ap, _∙_}
+use mathlib.Core.Bool.{cond}
 use mathlib.Core.List.{List, [], _∷_, map}
 use Prim.Native.Nat.{ℕ, zero, suc, _-_, _≤_}
 use native.Mathlib.Omega.{arith}
+use lib.Dec.{leb}
 use lib.ListN.{getD}
 use Rattle.terms.specs.Refusals.{numberOf}
 use Rattle.terms.specs.declared.refusal.Refusal.{Refusal}
-use Rattle.terms.specs.declared.refusal.Refusal.the-variants.{CutShort, UnknownKind, Misshapen, OutOfRange, OutOfPlace, StaleNumber, NoSuchOrder, OrdersFull, PositionTooSmall, RightsPassed, TotalPassed, DailyPassed, SpareTooFew, AvailablePassed, CeilingPassed, FillBarred, BufferTooShort, CashBelowZero, NothingWaiting, AlreadyWaiting}
+use Rattle.terms.specs.declared.refusal.Refusal.the-variants.{CutShort, UnknownKind, Misshapen, OutOfRange, OutOfPlace, StaleNumber, NoSuchOrder, OrdersFull, PositionTooSmall, RightsPassed, TotalPassed, DailyPassed, SpareTooFew, AvailablePassed, CeilingPassed, FillBarred, BufferTooShort, CashBelowZero, NothingWaiting, AlreadyWaiting, LongTooSmall, MeansTooSmall}
 
 abbrev pub reasons : List Refusal
 reasons =
     CutShort ∷ UnknownKind ∷ Misshapen ∷ OutOfRange ∷ OutOfPlace ∷ StaleNumber ∷ NoSuchOrder ∷ OrdersFull ∷ PositionTooSmall
     ∷ RightsPassed ∷ TotalPassed ∷ DailyPassed ∷ SpareTooFew ∷ AvailablePassed ∷ CeilingPassed ∷ FillBarred ∷ BufferTooShort ∷ CashBelowZero
-    ∷ NothingWaiting ∷ AlreadyWaiting ∷ []
+    ∷ NothingWaiting ∷ AlreadyWaiting ∷ LongTooSmall ∷ MeansTooSmall ∷ []
 
+-- the reason that has a number; after 20, the next that is given is 22
 abbrev reason : ℕ → Refusal
-reason n = getD reasons (n - 1) CutShort
+reason n = getD reasons (cond (leb n 20) (n - 1) (n - 2)) CutShort
 
-pub numbered : map numberOf reasons ≡ 1 ∷ 2 ∷ 3 ∷ 4 ∷ 5 ∷ 6 ∷ 7 ∷ 8 ∷ 9 ∷ 10 ∷ 11 ∷ 12 ∷ 13 ∷ 14 ∷ 15 ∷ 16 ∷ 17 ∷ 18 ∷ 19 ∷ 20 ∷ []
+pub numbered : map numberOf reasons ≡ 1 ∷ 2 ∷ 3 ∷ 4 ∷ 5 ∷ 6 ∷ 7 ∷ 8 ∷ 9 ∷ 10 ∷ 11 ∷ 12 ∷ 13 ∷ 14 ∷ 15 ∷ 16 ∷ 17 ∷ 18 ∷ 19 ∷ 20 ∷ 22 ∷ 23 ∷ []
 numbered = refl
 
 pub placed : (why : Refusal) → reason (numberOf why) ≡ why
@@ -41,6 +44,8 @@ placed BufferTooShort = refl
 placed CashBelowZero = refl
 placed NothingWaiting = refl
 placed AlreadyWaiting = refl
+placed LongTooSmall = refl
+placed MeansTooSmall = refl
 
 pub distinct : (why other : Refusal) → numberOf why ≡ numberOf other → why ≡ other
 distinct why other e = sym (placed why) ∙ ap reason e ∙ placed other

@@ -1,7 +1,7 @@
--- The refusal numbers, in the order and the words of document 01's table (house); from 19 on those of document 02's requests, of which #112 leaves 18 unused.
+-- The refusal numbers, in the order and the words of document 01's table (house); from 19 on those of document 02's requests, of which #112 leaves 18 unused. 21 is no number yet.
 use Prim.Native.Nat.{ℕ}
 use Rattle.terms.specs.declared.refusal.Refusal.{Refusal}
-use Rattle.terms.specs.declared.refusal.Refusal.the-variants.{CutShort, UnknownKind, Misshapen, OutOfRange, OutOfPlace, StaleNumber, NoSuchOrder, OrdersFull, PositionTooSmall, RightsPassed, TotalPassed, DailyPassed, SpareTooFew, AvailablePassed, CeilingPassed, FillBarred, BufferTooShort, CashBelowZero, NothingWaiting, AlreadyWaiting}
+use Rattle.terms.specs.declared.refusal.Refusal.the-variants.{CutShort, UnknownKind, Misshapen, OutOfRange, OutOfPlace, StaleNumber, NoSuchOrder, OrdersFull, PositionTooSmall, RightsPassed, TotalPassed, DailyPassed, SpareTooFew, AvailablePassed, CeilingPassed, FillBarred, BufferTooShort, CashBelowZero, NothingWaiting, AlreadyWaiting, LongTooSmall, MeansTooSmall}
 
 abbrev pub numberOf : Refusal → ℕ
 numberOf CutShort = 1  -- record cut short
@@ -24,3 +24,5 @@ numberOf BufferTooShort = 17  -- writing buffer shorter than the record
 numberOf CashBelowZero = 18  -- fill would bring cash below zero: none can, and the number stays unused (#112)
 numberOf NothingWaiting = 19  -- a payout paid or dropped with nothing waiting (#101)
 numberOf AlreadyWaiting = 20  -- a second request while one waits (#101)
+numberOf LongTooSmall = 22  -- long after netting below the count to be exercised (#105)
+numberOf MeansTooSmall = 23  -- money or units offered below what the exercise takes (#105)

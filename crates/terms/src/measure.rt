@@ -2,12 +2,14 @@
 ghost use mathlib.Core.Path.{_≡_};
 ghost use Rattle.terms.specs.Ranges.{rangeOf, unitAllowed, _∈_};
 
-// The sizes of the tables and of the account's places for orders: constants, since arrays have these lengths.
+// The sizes of the tables, of the account's places for orders and of an assignment: constants, since arrays have these lengths.
 pub const UNDERLYINGS: usize = 8;
 
 pub const CONTRACTS: usize = 64;
 
 pub const PLACES: usize = 32;
+
+pub const ACCOUNTS: usize = 256;
 
 const UNIT_STEP: u64 = 100;
 
@@ -25,6 +27,9 @@ pub enum Measure {
     UnitsAtOnce,
     Money,
     LockedUnits,
+    Exercise,
+    Accounts,
+    NetTotal,
 }
 
 // From the first number to the second, both counted.
@@ -48,6 +53,9 @@ impl Measure {
             Measure::UnitsAtOnce => Range(1, 1_000_000_000),
             Measure::Money => Range(0, 1_000_000_000_000_000),
             Measure::LockedUnits => Range(0, 2_000_000_000),
+            Measure::Exercise => Range(1, 10_000),
+            Measure::Accounts => Range(0, ACCOUNTS as u64),
+            Measure::NetTotal => Range(0, 10_000),
         }
     }
 

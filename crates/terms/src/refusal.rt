@@ -25,6 +25,8 @@ pub enum Refusal {
     CashBelowZero,
     NothingWaiting,
     AlreadyWaiting,
+    LongTooSmall,
+    MeansTooSmall,
 }
 
 impl Refusal {
@@ -52,6 +54,8 @@ impl Refusal {
             Refusal::CashBelowZero => 18,
             Refusal::NothingWaiting => 19,
             Refusal::AlreadyWaiting => 20,
+            Refusal::LongTooSmall => 22,
+            Refusal::MeansTooSmall => 23,
         }
     }
 }

@@ -4,7 +4,7 @@ use Prim.Native.Nat.{ℕ}
 use borrow.Author.Tests.{eq-eqb, ne-eqb}
 use Rattle.terms.specs.declared.refusal.Refusal.the-variants.{NothingWaiting}
 use Rattle.account.specs.Transfers.{payoutVerdict}
-use Rattle.account.specs.declared.judged.Verdict.the-variants.{Accepted, Refused}
+use Rattle.terms.specs.declared.verdict.Verdict.the-variants.{Accepted, Refused}
 
 pub nothing-waits : (waiting : ℕ) → waiting ≡ 0 → payoutVerdict waiting ≡ Refused NothingWaiting
 unfolding payoutVerdict

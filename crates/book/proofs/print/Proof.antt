@@ -9,7 +9,7 @@ use borrow.Author.Needs.{needs}
 use lib.IntN.{ℤ}
 use lib.ListN.{length, take, drop}
 use lib.Seq.{length-take-le, take-at}
-use Rattle.account.specs.declared.judged.Verdict.the-variants.{Accepted}
+use Rattle.terms.specs.declared.verdict.Verdict.the-variants.{Accepted}
 use Rattle.set_up.specs.Sound.{SoundBook}
 use Rattle.set_up.specs.declared.stages.Book.{Book}
 use Rattle.set_up.proofs.EnteredSound.{new-sound}

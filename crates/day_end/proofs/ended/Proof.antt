@@ -6,7 +6,7 @@ use Rattle.account.specs.DayEnd.{figuresInstalled, dayEnded}
 use Rattle.account.specs.Sound.{Sound}
 use Rattle.account.specs.declared.account.Account.{Account}
 use Rattle.account.specs.declared.judged.Outcome.{Outcome}
-use Rattle.account.specs.declared.judged.Verdict.the-variants.{Accepted}
+use Rattle.terms.specs.declared.verdict.Verdict.the-variants.{Accepted}
 use Rattle.account.specs.declared.tables.Tables.{Tables}
 use Rattle.account.proofs.DayEndSound.{day-end-sound}
 use Rattle.day_end.specs.Ended.{FiguresTaken, endedOn}

@@ -16,8 +16,8 @@ use Rattle.entries.specs.declared.entry.Underlying as Underlying·row
 use Rattle.account.specs.DayEnd.{figuresInstalled}
 use Rattle.account.specs.Sound.{contractAllowed, underlyingAllowed}
 use Rattle.account.specs.Steps.{tablesAfter}
-use Rattle.account.specs.declared.judged.Verdict.{Verdict}
-use Rattle.account.specs.declared.judged.Verdict.the-variants.{Accepted, Refused}
+use Rattle.terms.specs.declared.verdict.Verdict.{Verdict}
+use Rattle.terms.specs.declared.verdict.Verdict.the-variants.{Accepted, Refused}
 use Rattle.account.specs.declared.tables.Tables.{Tables}
 use Rattle.account.proofs.Passed.{went-on}
 use Rattle.set_up.specs.Stages.{bookAfter, entered, enteredAs, inPlace, newBook, opened, recordVerdict, withContract, withEntry}

@@ -17,14 +17,14 @@ use Rattle.entries.specs.declared.entry.Underlying.{Underlying}
 use Rattle.entries.specs.declared.kind.Kind.{Kind}
 use Rattle.entries.proofs.EachKind.{each-kind}
 use Rattle.account.specs.Checks.{member}
-use Rattle.account.specs.DayEnd.{every}
+use Rattle.terms.specs.Listed.{every}
 use Rattle.account.specs.InOrder.{entryTests, first}
 use Rattle.account.specs.Rows.{contract, underlying}
 use Rattle.account.specs.Sound.{contractAllowed, underlyingAllowed}
 use Rattle.account.specs.Steps.{refusalOf}
-use Rattle.account.specs.Verdicts.{_else_then_, numberIn}
-use Rattle.account.specs.declared.judged.Verdict.{Verdict}
-use Rattle.account.specs.declared.judged.Verdict.the-variants.{Accepted}
+use Rattle.terms.specs.Verdicts.{_else_then_, numberIn}
+use Rattle.terms.specs.declared.verdict.Verdict.{Verdict}
+use Rattle.terms.specs.declared.verdict.Verdict.the-variants.{Accepted}
 use Rattle.account.specs.declared.tables.Tables.{Tables}
 use Rattle.account.proofs.InOrder.{Adds, Told, accepted, both, entry-number, next, one, some-wrong}
 use Rattle.rows.specs.Given.{listVerdict}

@@ -44,8 +44,8 @@ use Rattle.writing.specs.declared.Written.the-variants as Written·of
 use Rattle.writing.proofs.write.Met as write-met
 use Rattle.writing.proofs.write.Reads as write
 use Rattle.writing.proofs.write.Statement as write-statement
-use Rattle.account.specs.Verdicts.{numberIn}
-use Rattle.account.specs.declared.judged.Verdict.the-variants.{Accepted, Refused}
+use Rattle.terms.specs.Verdicts.{numberIn}
+use Rattle.terms.specs.declared.verdict.Verdict.the-variants.{Accepted, Refused}
 use Rattle.rows.specs.Given.{listVerdict}
 use Rattle.set_up.specs.Stages.{newBook}
 use Rattle.desk.specs.Runs.{bookRun, listRun, placesIn, runFrom}

@@ -21,9 +21,9 @@ use Rattle.account.specs.Fills.{named}
 use Rattle.account.specs.InOrder.{fillTests}
 use Rattle.account.specs.Sound.{Sound}
 use Rattle.account.specs.Steps.{refusalOf}
-use Rattle.account.specs.Verdicts.{numberIn}
+use Rattle.terms.specs.Verdicts.{numberIn}
 use Rattle.account.specs.declared.account.Account.{Account}
-use Rattle.account.specs.declared.judged.Verdict.{Verdict}
+use Rattle.terms.specs.declared.verdict.Verdict.{Verdict}
 use Rattle.account.specs.declared.tables.Tables.{Tables}
 use Rattle.account.proofs.InOrder.{entry-number}
 use Rattle.set_up.specs.Stages.{newBook}

@@ -18,9 +18,9 @@ use Rattle.reader.specs.Reader.{foundAt}
 use Rattle.reading.specs.declared.Answer.{Answer}
 use Rattle.reading.specs.declared.Answer.the-variants as Reading·of
 use Rattle.reading.specs.declared.Reading.{Reading}
-use Rattle.account.specs.Verdicts.{numberIn}
-use Rattle.account.specs.declared.judged.Verdict.{Verdict}
-use Rattle.account.specs.declared.judged.Verdict.the-variants.{Accepted, Refused}
+use Rattle.terms.specs.Verdicts.{numberIn}
+use Rattle.terms.specs.declared.verdict.Verdict.{Verdict}
+use Rattle.terms.specs.declared.verdict.Verdict.the-variants.{Accepted, Refused}
 use Rattle.account.specs.declared.tables.Tables.{Tables}
 use Rattle.set_up.specs.Stages.{Entered, entered, opened}
 use Rattle.set_up.specs.declared.stages.Book.{Book}

@@ -15,8 +15,8 @@ use Rattle.account.specs.Opening.{opening}
 use Rattle.account.specs.Steps.{accountAfter, outcome, refusalOf, run, step, tablesAfter}
 use Rattle.account.specs.declared.account.Account.{Account}
 use Rattle.account.specs.declared.judged.Outcome.{Outcome}
-use Rattle.account.specs.declared.judged.Verdict.{Verdict}
-use Rattle.account.specs.declared.judged.Verdict.the-variants.{Accepted, Refused}
+use Rattle.terms.specs.declared.verdict.Verdict.{Verdict}
+use Rattle.terms.specs.declared.verdict.Verdict.the-variants.{Accepted, Refused}
 use Rattle.account.specs.declared.tables.Tables.{Tables}
 use Rattle.rows.specs.Given.{listVerdict}
 use Rattle.set_up.specs.Stages.{Entered, bookAfter, entered, enteredAs, recordVerdict}

@@ -16,10 +16,10 @@ use Rattle.account.specs.DayEnd.{keptAnew, ordersCancelled, positionsNetted, ma
 use Rattle.account.specs.Rows.{noPosition, position}
 use Rattle.account.specs.Sound.{Sound}
 use Rattle.account.specs.Steps.{accountAfter}
-use Rattle.account.specs.Verdicts.{numberIn}
+use Rattle.terms.specs.Verdicts.{numberIn}
 use Rattle.account.specs.declared.account.Account.{Account}
-use Rattle.account.specs.declared.judged.Verdict.{Verdict}
-use Rattle.account.specs.declared.judged.Verdict.the-variants as Verdict·of
+use Rattle.terms.specs.declared.verdict.Verdict.{Verdict}
+use Rattle.terms.specs.declared.verdict.Verdict.the-variants as Verdict·of
 use Rattle.account.specs.declared.tables.Tables.{Tables}
 use Rattle.set_up.specs.Sound.{SoundBook}
 use Rattle.set_up.specs.Stages.{bookAfter, entered, enteredAs, recordVerdict}

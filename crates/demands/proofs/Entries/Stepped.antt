@@ -9,7 +9,7 @@ use Rattle.entries.specs.declared.entry.Figures.{Figures}
 use Rattle.account.specs.DayEnd.{keptAnew, ordersCancelled, positionsNetted, marginAfresh, premiumJoined, dailyZero, unitsReleased, dayEnded}
 use Rattle.account.specs.Steps.{refusalOf, step, run}
 use Rattle.account.specs.declared.account.Account.{Account}
-use Rattle.account.specs.declared.judged.Verdict.the-variants.{Refused}
+use Rattle.terms.specs.declared.verdict.Verdict.the-variants.{Refused}
 use Rattle.account.specs.declared.tables.Tables.{Tables}
 use Rattle.account.specs.Sound.{Sound}
 use Rattle.account.proofs.StepSound.{step-sound}

@@ -25,11 +25,11 @@ use Rattle.account.specs.Fills.{named, paid, priceAllowed, fillVerdict}
 use Rattle.account.specs.Money.{kindOf}
 use Rattle.account.specs.Sound.{Sound}
 use Rattle.account.specs.Steps.{refusalOf}
-use Rattle.account.specs.Verdicts.{_else_then_}
+use Rattle.terms.specs.Verdicts.{_else_then_}
 use Rattle.account.specs.declared.account.Account.{Account}
 use Rattle.account.specs.declared.judged.Named.{Named}
-use Rattle.account.specs.declared.judged.Verdict.{Verdict}
-use Rattle.account.specs.declared.judged.Verdict.the-variants.{Accepted}
+use Rattle.terms.specs.declared.verdict.Verdict.{Verdict}
+use Rattle.terms.specs.declared.verdict.Verdict.the-variants.{Accepted}
 use Rattle.account.specs.declared.tables.Tables.{Tables}
 use Rattle.account.proofs.Decided.{checked}
 use Rattle.account.proofs.Filled.{fill-passed, fill-reached}

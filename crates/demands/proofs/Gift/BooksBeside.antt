@@ -21,10 +21,10 @@ use Rattle.entries.specs.declared.entry.Underlying as Underlyings·of
 use Rattle.account.specs.Rows.{noUnderlying}
 use Rattle.account.specs.Sound.{underlyingAllowed}
 use Rattle.account.specs.Steps.{accountAfter, refusalOf}
-use Rattle.account.specs.Verdicts.{_else_then_}
+use Rattle.terms.specs.Verdicts.{_else_then_}
 use Rattle.account.specs.declared.account.Account.{Account}
-use Rattle.account.specs.declared.judged.Verdict.{Verdict}
-use Rattle.account.specs.declared.judged.Verdict.the-variants.{Accepted}
+use Rattle.terms.specs.declared.verdict.Verdict.{Verdict}
+use Rattle.terms.specs.declared.verdict.Verdict.the-variants.{Accepted}
 use Rattle.account.proofs.Held.{Held}
 use Rattle.account.proofs.OpeningSound.{opening-held}
 use Rattle.account.proofs.Passed.{went-on}

@@ -11,9 +11,9 @@ use lib.Signed.{leZ}
 use Rattle.terms.specs.Ranges.{rangeOf, _∈_}
 use Rattle.terms.specs.declared.measure.Measure.the-variants.{Money}
 use Rattle.terms.specs.declared.refusal.Refusal.{Refusal}
-use Rattle.account.specs.Verdicts.{_else_then_}
-use Rattle.account.specs.declared.judged.Verdict.{Verdict}
-use Rattle.account.specs.declared.judged.Verdict.the-variants.{Accepted}
+use Rattle.terms.specs.Verdicts.{_else_then_}
+use Rattle.terms.specs.declared.verdict.Verdict.{Verdict}
+use Rattle.terms.specs.declared.verdict.Verdict.the-variants.{Accepted}
 use Rattle.terms.proofs.Ranges.{within}
 use Rattle.account.proofs.Passed.{went-on}
 

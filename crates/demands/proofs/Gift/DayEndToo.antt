@@ -11,16 +11,17 @@ use Rattle.rules.specs.Count.{forCount}
 use Rattle.entries.specs.declared.entry.Entry.the-variants.{DayEnd}
 use Rattle.entries.specs.declared.entry.Figures.{Figures}
 use Rattle.entries.specs.declared.entry.Underlying.{Underlying}
-use Rattle.account.specs.DayEnd.{keptAnew, listed, closeOf, closed, withSheet, dayEndVerdict, ordersCancelled, positionsNetted, figuresInstalled, marginAfresh, premiumJoined, dailyZero, unitsReleased, dayEnded}
+use Rattle.account.specs.DayEnd.{keptAnew, closeOf, closed, withSheet, dayEndVerdict, ordersCancelled, positionsNetted, figuresInstalled, marginAfresh, premiumJoined, dailyZero, unitsReleased, dayEnded}
+use Rattle.terms.specs.Listed.{listed}
 use Rattle.account.specs.Money.{marginIn}
 use Rattle.account.specs.Rows.{noUnderlying, contract, underlying, position}
 use Rattle.account.specs.Steps.{accountAfter, refusalOf, tablesAfter}
 use Rattle.account.specs.Totals.{countIn, coveredUnits, overOrders, reservedUnits, totalIn}
 use Rattle.account.specs.declared.account.Account.{Account}
-use Rattle.account.specs.declared.judged.Verdict.the-variants.{Accepted}
+use Rattle.terms.specs.declared.verdict.Verdict.the-variants.{Accepted}
 use Rattle.account.specs.declared.tables.Tables.{Tables}
-use Rattle.account.proofs.Listed.{listed-length, listed-at}
-use Rattle.account.proofs.Sums.{Σ-same}
+use Rattle.terms.proofs.Listed.{listed-length, listed-at}
+use Rattle.terms.proofs.Sums.{Σ-same}
 use Rattle.demands.specs.Gift.{Roomier, RoomierTables, richer}
 use Rattle.demands.proofs.Gift.Relisted.{Too, margin-same, relisted, same-row}
 

@@ -8,8 +8,8 @@ use Rattle.account.specs.Opening.{opening}
 use Rattle.account.specs.Steps.{refusalOf, tablesAfter, accountAfter, outcome, step, runBy, run}
 use Rattle.account.specs.declared.account.Account.{Account}
 use Rattle.account.specs.declared.judged.Outcome.{Outcome}
-use Rattle.account.specs.declared.judged.Verdict.{Verdict}
-use Rattle.account.specs.declared.judged.Verdict.the-variants.{Accepted, Refused}
+use Rattle.terms.specs.declared.verdict.Verdict.{Verdict}
+use Rattle.terms.specs.declared.verdict.Verdict.the-variants.{Accepted, Refused}
 use Rattle.account.specs.declared.tables.Tables.{Tables}
 use Rattle.account.proofs.Available.{more-cash}
 use Rattle.account.proofs.Held.{Held}

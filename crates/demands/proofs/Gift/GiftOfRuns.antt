@@ -8,8 +8,8 @@ use lib.IntN.{ℤ, pos, _+ℤ_}
 use lib.ListN.{getD, length, length-map, take}
 use lib.Seq.{take-at}
 use Rattle.reading.specs.Reading.{readAt}
-use Rattle.account.specs.declared.judged.Verdict.{Verdict}
-use Rattle.account.specs.declared.judged.Verdict.the-variants.{Accepted}
+use Rattle.terms.specs.declared.verdict.Verdict.{Verdict}
+use Rattle.terms.specs.declared.verdict.Verdict.the-variants.{Accepted}
 use Rattle.account.specs.declared.tables.Tables.{Tables}
 use Rattle.rows.specs.Given.{listVerdict}
 use Rattle.set_up.specs.Stages.{newBook}

@@ -18,15 +18,15 @@ use Rattle.entries.specs.declared.entry.Figures.{Figures}
 use Rattle.entries.specs.declared.entry.Underlying as Underlyings·of
 use Rattle.reading.specs.Reading.{readAt}
 use Rattle.reading.specs.declared.Answer.the-variants as Answer·of
-use Rattle.account.specs.DayEnd.{every}
+use Rattle.terms.specs.Listed.{every}
 use Rattle.account.specs.Opening.{opening}
 use Rattle.account.specs.Rows.{underlying}
 use Rattle.account.specs.Sound.{underlyingAllowed}
-use Rattle.account.specs.declared.judged.Verdict.{Verdict}
-use Rattle.account.specs.declared.judged.Verdict.the-variants.{Accepted}
+use Rattle.terms.specs.declared.verdict.Verdict.{Verdict}
+use Rattle.terms.specs.declared.verdict.Verdict.the-variants.{Accepted}
 use Rattle.account.specs.declared.tables.Tables.{Tables}
 use Rattle.account.proofs.Bounds.{four}
-use Rattle.account.proofs.Listed.{all-pass}
+use Rattle.terms.proofs.Listed.{all-pass}
 use Rattle.account.proofs.OpeningSound.{opening-held}
 use Rattle.account.proofs.Passed.{went-on}
 use Rattle.rows.specs.Given.{listVerdict, tablesAllowed}

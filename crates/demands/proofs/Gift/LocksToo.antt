@@ -10,7 +10,7 @@ use Rattle.account.specs.Locks.{lockVerdict, lockChange, unlockVerdict, unlockC
 use Rattle.account.specs.Steps.{accountAfter, refusalOf, tablesAfter}
 use Rattle.account.specs.Totals.{overOrders, coveredUnits, reservedUnits, spareUnits}
 use Rattle.account.specs.declared.account.Account.{Account}
-use Rattle.account.specs.declared.judged.Verdict.the-variants.{Accepted}
+use Rattle.terms.specs.declared.verdict.Verdict.the-variants.{Accepted}
 use Rattle.account.specs.declared.tables.Tables.{Tables}
 use Rattle.demands.specs.Gift.{RoomierTables}
 use Rattle.demands.proofs.Gift.Relisted.{Too, relisted}

@@ -18,7 +18,7 @@ use Rattle.account.specs.Totals.{countIn, overOrders, rightsIn, totalIn, covere
 use Rattle.account.specs.declared.account.Account.{Account}
 use Rattle.account.specs.declared.account.Sheet.{Sheet}
 use Rattle.account.specs.declared.judged.Facts.{Facts}
-use Rattle.account.specs.declared.judged.Verdict.the-variants.{Accepted}
+use Rattle.terms.specs.declared.verdict.Verdict.the-variants.{Accepted}
 use Rattle.account.specs.declared.tables.Tables.{Tables}
 use Rattle.account.proofs.Available.{more-cash}
 use Rattle.account.proofs.Passed.{accepted-passed, facts-known}

@@ -13,7 +13,7 @@ use Rattle.account.specs.DayEnd.{withSheet}
 use Rattle.account.specs.Money.{marginBy, holdBy}
 use Rattle.account.specs.Steps.{accountAfter, refusalOf, tablesAfter}
 use Rattle.account.specs.declared.account.Account.{Account}
-use Rattle.account.specs.declared.judged.Verdict.the-variants.{Accepted}
+use Rattle.terms.specs.declared.verdict.Verdict.the-variants.{Accepted}
 use Rattle.account.specs.declared.tables.Tables.{Tables}
 use Rattle.demands.specs.Gift.{Roomier, RoomierTables, richer}
 

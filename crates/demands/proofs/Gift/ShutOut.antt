@@ -22,14 +22,14 @@ use Rattle.account.specs.Money.{availableOf, holdsIn}
 use Rattle.account.specs.Opening.{opening}
 use Rattle.account.specs.Orders.{factsOf, freePlace, orderAllowed, orderChange}
 use Rattle.account.specs.Steps.{accountAfter, refusalOf, run, step, tablesAfter}
-use Rattle.account.specs.Sums.{lowest, Σ}
+use Rattle.terms.specs.Sums.{lowest, Σ}
 use Rattle.account.specs.Totals.{countIn, overOrders, rightsIn, totalIn}
 use Rattle.account.specs.Transfers.{depositChange, depositVerdict}
-use Rattle.account.specs.Verdicts.{numberIn}
+use Rattle.terms.specs.Verdicts.{numberIn}
 use Rattle.account.specs.declared.account.Account.{Account}
 use Rattle.account.specs.declared.judged.Outcome.{Outcome}
-use Rattle.account.specs.declared.judged.Verdict.{Verdict}
-use Rattle.account.specs.declared.judged.Verdict.the-variants.{Accepted, Refused}
+use Rattle.terms.specs.declared.verdict.Verdict.{Verdict}
+use Rattle.terms.specs.declared.verdict.Verdict.the-variants.{Accepted, Refused}
 use Rattle.account.specs.declared.tables.Tables.{Tables}
 use Rattle.account.proofs.Held.{Held}
 use Rattle.account.proofs.OpeningSound.{opening-held}

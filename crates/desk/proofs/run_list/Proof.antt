@@ -2,7 +2,7 @@
 use mathlib.Core.Path.{_≡_, sym, subst, _∙_}
 use borrow.Author.Needs.{needs}
 use lib.ListN.{length}
-use Rattle.account.proofs.Listed.{counted}
+use Rattle.terms.proofs.Listed.{counted}
 use Rattle.set_up.specs.Sound.{SoundBook}
 use Rattle.set_up.proofs.EnteredSound.{list-sound}
 use Rattle.desk.proofs.Started.{from-start, list-refused, list-run}

@@ -5,7 +5,7 @@ use Prim.Native.Nat.{ℕ, _<_}
 use borrow.Author.Needs.{needs}
 use Rattle.entries.specs.declared.entry.Contract.{Contract}
 use Rattle.account.specs.Sound.{contractAllowed}
-use Rattle.account.proofs.Listed.{each-passes}
+use Rattle.terms.proofs.Listed.{each-passes}
 use Rattle.fixed.specs.Rows.{count, inTurn}
 use Rattle.fixed.proofs.contract_of.Statement.{statement}
 use Rattle.fixed.proofs.contract_of.Tie as tie

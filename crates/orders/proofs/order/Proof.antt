@@ -13,7 +13,7 @@ use Rattle.account.specs.Sound.{Sound}
 use Rattle.account.specs.declared.account.Account.{Account}
 use Rattle.account.specs.declared.judged.Decision.{Decision}
 use Rattle.account.specs.declared.judged.Facts.{Facts}
-use Rattle.account.specs.declared.judged.Verdict.the-variants.{Accepted}
+use Rattle.terms.specs.declared.verdict.Verdict.the-variants.{Accepted}
 use Rattle.account.specs.declared.tables.Tables.{Tables}
 use Rattle.account.proofs.Allowed.{contract-known, underlying-known}
 use Rattle.account.proofs.Bounds.{bought-most, holds-most, one-hold, order-figures}

@@ -5,10 +5,10 @@ use Prim.Native.Nat.{_-_, _≤_}
 use native.Mathlib.Omega.{arith}
 use borrow.Author.Tests.{not-true, not-false}
 use lib.ListN.{getD}
-use Rattle.account.specs.DayEnd.{every}
+use Rattle.terms.specs.Listed.{every}
 use Rattle.account.specs.Rows.{noContract}
 use Rattle.account.specs.Sound.{contractAllowed}
-use Rattle.account.proofs.Listed.{all-passed, one-fails, one-more}
+use Rattle.terms.proofs.Listed.{all-passed, one-fails, one-more}
 use Rattle.rows.proofs.contracts_allowed.Statement.{statement}
 use Rattle.rows.proofs.contracts_allowed.Tie as tie
 

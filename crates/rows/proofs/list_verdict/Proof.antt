@@ -10,12 +10,12 @@ use Rattle.terms.specs.Ranges.{rangeOf, _∈_}
 use Rattle.terms.specs.declared.measure.Measure.the-variants.{OpeningCash}
 use Rattle.terms.specs.declared.refusal.Refusal.the-variants.{OutOfPlace, OutOfRange}
 use Rattle.terms.proofs.Ranges.{first-holds, second-holds}
-use Rattle.account.specs.DayEnd.{every}
+use Rattle.terms.specs.Listed.{every}
 use Rattle.account.specs.Rows.{contract, underlying}
 use Rattle.account.specs.Sound.{contractAllowed, underlyingAllowed}
-use Rattle.account.specs.Verdicts.{_else_then_}
-use Rattle.account.specs.declared.judged.Verdict.{Verdict}
-use Rattle.account.specs.declared.judged.Verdict.the-variants.{Accepted, Refused}
+use Rattle.terms.specs.Verdicts.{_else_then_}
+use Rattle.terms.specs.declared.verdict.Verdict.{Verdict}
+use Rattle.terms.specs.declared.verdict.Verdict.the-variants.{Accepted, Refused}
 use Rattle.account.specs.declared.tables.Tables.{Tables}
 use Rattle.rows.specs.Given.{listVerdict}
 use Rattle.rows.proofs.list_verdict.Statement.{statement}

@@ -6,7 +6,7 @@ use borrow.Author.Needs.{needs}
 use borrow.Author.Tests.{lt-ltb, le-ltb}
 use lib.Dec.{eqb}
 use Rattle.account.specs.Running.{freeAt}
-use Rattle.account.specs.Sums.{_when_}
+use Rattle.terms.specs.Sums.{_when_}
 use Rattle.account.specs.declared.account.Resting.{Resting}
 use Rattle.account.proofs.account.free_moved.Statement.{statement}
 use Rattle.account.proofs.account.free_moved.Tie as tie

@@ -7,8 +7,8 @@ use borrow.Author.Needs.{needs}
 use borrow.Author.Tests.{not-true, not-false}
 use lib.ListN.{getD}
 use Rattle.terms.specs.Ranges.{rangeOf, _∈_}
-use Rattle.account.specs.DayEnd.{every}
-use Rattle.account.proofs.Listed.{all-passed, one-fails, one-more}
+use Rattle.terms.specs.Listed.{every}
+use Rattle.terms.proofs.Listed.{all-passed, one-fails, one-more}
 use Rattle.day_end.proofs.figures.all_allowed.Statement.{statement}
 use Rattle.day_end.proofs.figures.all_allowed.Tie as tie
 

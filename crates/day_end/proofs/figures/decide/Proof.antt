@@ -12,13 +12,14 @@ use Rattle.terms.specs.declared.refusal.Refusal.the-variants.{OutOfRange}
 use Rattle.entries.specs.declared.entry.Entry.the-variants.{DayEnd}
 use Rattle.entries.specs.declared.entry.Figures.{Figures}
 use Rattle.account.specs.Changes.{ending}
-use Rattle.account.specs.DayEnd.{every, settlementOf, closeOf, dayEndVerdict}
+use Rattle.account.specs.DayEnd.{settlementOf, closeOf, dayEndVerdict}
+use Rattle.terms.specs.Listed.{every}
 use Rattle.account.specs.Seen.{Sees}
-use Rattle.account.specs.Verdicts.{_else_then_}
+use Rattle.terms.specs.Verdicts.{_else_then_}
 use Rattle.account.specs.declared.account.Account.{Account}
 use Rattle.account.specs.declared.judged.Decision.the-variants as Decision·of
 use Rattle.account.specs.declared.judged.Seen.{Seen}
-use Rattle.account.specs.declared.judged.Verdict.the-variants.{Accepted}
+use Rattle.terms.specs.declared.verdict.Verdict.the-variants.{Accepted}
 use Rattle.account.specs.declared.tables.Tables.{Tables}
 use Rattle.account.proofs.SeenRows.{shown}
 use Rattle.day_end.proofs.figures.decide.Statement.{statement}

@@ -7,7 +7,7 @@ use Rattle.rules.specs.Count.{forCount}
 use Rattle.account.specs.Changes.{withoutPosition}
 use Rattle.account.specs.Fills.{cancelChange}
 use Rattle.account.specs.Rows.{free}
-use Rattle.account.specs.Sums.{_when_}
+use Rattle.terms.specs.Sums.{_when_}
 use Rattle.account.specs.Totals.{isKind}
 use Rattle.account.specs.declared.account.Resting.{Resting}
 use Rattle.account.specs.declared.account.Sheet.{Sheet}

@@ -18,12 +18,12 @@ use Rattle.entries.specs.declared.entry.Fill.{Fill}
 use Rattle.account.specs.Changes.{decided}
 use Rattle.account.specs.Fills.{fillChange, fillVerdict, paid, priceAllowed}
 use Rattle.account.specs.Money.{kindOf}
-use Rattle.account.specs.Verdicts.{_else_then_}
+use Rattle.terms.specs.Verdicts.{_else_then_}
 use Rattle.account.specs.declared.judged.Change.{Change}
 use Rattle.account.specs.declared.judged.Decision.{Decision}
 use Rattle.account.specs.declared.judged.Decision.the-variants.{Changes, Refused}
 use Rattle.account.specs.declared.judged.Named.{Named}
-use Rattle.account.specs.declared.judged.Verdict.the-variants.{Accepted}
+use Rattle.terms.specs.declared.verdict.Verdict.the-variants.{Accepted}
 use Rattle.money.specs.Charged.{premiumCharged}
 use Rattle.money.proofs.Charged.{premium-charged}
 use Rattle.fills.specs.Takes.{Exact, Fillable}

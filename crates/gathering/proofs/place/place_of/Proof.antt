@@ -8,7 +8,7 @@ use borrow.Author.Tests.{eq-eqb, ne-eqb}
 use lib.Dec.{eqb}
 use lib.ListN.{getD}
 use Rattle.account.specs.Rows.{free}
-use Rattle.account.specs.Sums.{lowest}
+use Rattle.terms.specs.Sums.{lowest}
 use Rattle.account.specs.declared.account.Resting.{Resting}
 use Rattle.account.proofs.Lowest.{lowest-start, lowest-here, lowest-on, lowest-end}
 use Rattle.gathering.proofs.place.place_of.Statement.{statement}

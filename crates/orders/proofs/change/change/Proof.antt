@@ -10,7 +10,7 @@ use Rattle.terms.specs.declared.kind.OrderKind.the-variants.{BuyOpen}
 use Rattle.entries.specs.declared.entry.Order.{Order}
 use Rattle.account.specs.Changes.{withoutPosition}
 use Rattle.account.specs.Orders.{orderChange, withHold}
-use Rattle.account.specs.Sums.{_when_}
+use Rattle.terms.specs.Sums.{_when_}
 use Rattle.account.specs.Totals.{isKind}
 use Rattle.account.specs.declared.account.Sheet.{Sheet}
 use Rattle.account.specs.declared.judged.Facts.{Facts}

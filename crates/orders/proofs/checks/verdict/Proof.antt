@@ -11,8 +11,8 @@ use Rattle.terms.specs.declared.kind.OrderKind.the-variants.{BuyOpen, SellClose
 use Rattle.entries.specs.declared.entry.Order.{Order}
 use Rattle.account.specs.Checks.{columns, orderVerdict, passes}
 use Rattle.account.specs.declared.judged.Facts.{Facts}
-use Rattle.account.specs.declared.judged.Verdict.{Verdict}
-use Rattle.account.specs.declared.judged.Verdict.the-variants.{Refused}
+use Rattle.terms.specs.declared.verdict.Verdict.{Verdict}
+use Rattle.terms.specs.declared.verdict.Verdict.the-variants.{Refused}
 use Rattle.orders.proofs.Walk.{walkAt, walks, refused, goes-on, accepted}
 use Rattle.orders.proofs.checks.verdict.Statement.{statement}
 use Rattle.orders.proofs.checks.verdict.Tie as tie

@@ -14,7 +14,7 @@ use Rattle.account.specs.declared.account.Account.{Account}
 use Rattle.account.specs.declared.account.Resting.{Resting}
 use Rattle.account.specs.declared.judged.Change.{Change}
 use Rattle.account.specs.declared.running.Running.{Running}
-use Rattle.account.proofs.Listed.{counted}
+use Rattle.terms.proofs.Listed.{counted}
 use Rattle.account.proofs.PastLast.{none-there, row-set}
 use Rattle.account.proofs.account.Account.apply.Statement.{statement}
 use Rattle.account.proofs.account.Account.apply.Tie as tie

@@ -10,7 +10,7 @@ use Rattle.account.specs.declared.account.Account.{Account}
 use Rattle.account.specs.declared.account.Holding.{Holding}
 use Rattle.account.specs.declared.account.Resting.{Resting}
 use Rattle.account.specs.declared.judged.Change.{Change}
-use Rattle.account.proofs.Listed.{counted}
+use Rattle.terms.proofs.Listed.{counted}
 use Rattle.account.proofs.PastLast.{row-set}
 use Rattle.account.proofs.account.Account.written.Statement.{statement}
 use Rattle.account.proofs.account.Account.written.Tie as tie

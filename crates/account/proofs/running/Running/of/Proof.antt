@@ -7,7 +7,7 @@ use borrow.Author.Needs.{needs}
 use Rattle.terms.specs.Counts.{unitsFor}
 use Rattle.terms.specs.declared.count.Units.{Units}
 use Rattle.terms.specs.declared.kind.OrderKind.the-variants.{CoveredOpen}
-use Rattle.account.specs.Sums.{_when_}
+use Rattle.terms.specs.Sums.{_when_}
 use Rattle.account.specs.Totals.{isKind, isOpen}
 use Rattle.account.proofs.running.Running.of.Statement.{statement}
 use Rattle.account.proofs.running.Running.of.Tie as tie

@@ -1,9 +1,9 @@
 -- `number` meets its contract: 0 for what was accepted, else the refusal's number.
 use mathlib.Core.Path.{sym, ap, _∙_}
 use borrow.Author.Needs.{needs}
-use Rattle.account.specs.Verdicts.{numberIn}
-use Rattle.account.proofs.judged.Verdict.number.Statement.{statement}
-use Rattle.account.proofs.judged.Verdict.number.Tie as tie
+use Rattle.terms.specs.Verdicts.{numberIn}
+use Rattle.terms.proofs.verdict.Verdict.number.Statement.{statement}
+use Rattle.terms.proofs.verdict.Verdict.number.Tie as tie
 
 pub number-spec : {M : Type 1} → statement M
 number-spec =

@@ -1,4 +1,4 @@
--- One sum, from which every total of the account is made.
+-- One sum, from which every total is made.
 use Prim.Native.Nat.{ℕ, zero, suc, _+_}
 use mathlib.Core.Bool.{Bool, cond}
 

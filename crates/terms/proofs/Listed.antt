@@ -11,8 +11,8 @@ use borrow.Author.Tests.{lt-ltb}
 use lib.Dec.{ltb}
 use lib.ListN.{length, getD, length-append, length-map, List·getD-append}
 use lib.Seq.{getD-at}
 use Rattle.terms.proofs.Ranges.{both-hold, first-holds, second-holds}
-use Rattle.account.specs.DayEnd.{listed, every}
+use Rattle.terms.specs.Listed.{listed, every}
 
 pub listed-length : {A : Type 0} (n : ℕ) (f : ℕ → A) → length (listed n f) ≡ n
 listed-length zero f = refl
