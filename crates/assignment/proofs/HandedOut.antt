@@ -53,11 +53,12 @@ module _ (left i : ℕ) (fractions shares : List ℕ) (before : Handable left fr
         | no other ↦ let same = more-elsewhere shares i j other in omega (arith, same, room)
       ]
 
-  pub fewer-left : Handable (left - 1) (usedUp fractions i) (oneMore shares i)
-  fewer-left =
+  -- .. whatever becomes of the fraction
+  pub fewer-left : (x : ℕ) → Handable (left - 1) (set fractions i x) (oneMore shares i)
+  fewer-left x =
       record {
-        accounts = length-set shares i _ ∙ before .accounts ∙ sym (length-set fractions i 0);
-        some = λ h. omega (arith, inside, length-set fractions i 0);
+        accounts = length-set shares i _ ∙ before .accounts ∙ sym (length-set fractions i x);
+        some = λ h. omega (arith, inside, length-set fractions i x);
         room = λ j there. less-room j (omega (arith, there, length-set shares i (getD shares i 0 + 1)));
       }
 

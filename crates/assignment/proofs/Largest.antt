@@ -46,15 +46,6 @@ has-place fractions i some =
       | no h ↦ let past : length fractions ≤ i = omega (arith, h) in let none = List·getD-eq-default fractions 0 past in absurd (omega (arith, some, none))
     ]
 
-pub among : (fractions : List ℕ) → 0 < length fractions → largest fractions < length fractions
-unfolding largest
-among [] h = h
-among (x ∷ xs) h = go (leb (getD xs (largest xs) 0) x) refl
-  where
-    go : (test : Bool) → leb (getD xs (largest xs) 0) x ≡ test → cond test 0 (suc (largest xs)) < suc (length xs)
-    go true t = omega arith
-    go false t = let larger = leb-false (getD xs (largest xs) 0) x t in let there = has-place xs (largest xs) (omega (arith, larger)) in omega (arith, there)
-
 -- from the last account to the first: of those from k on, the one at k or the best of those behind it
 module _ (fractions : List ℕ) (k behind : ℕ) (next : suc k ≡ behind) (inside : k < length fractions) where
   opened : largest (drop k fractions) ≡ cond (leb (getD (drop behind fractions) (largest (drop behind fractions)) 0) (getD fractions k 0)) 0 (suc (largest (drop behind fractions)))

@@ -1,5 +1,6 @@
 -- `lay` meets its contract: of the shares that `share_out` writes the covered contracts are taken out.
 use mathlib.Core.Path.{ap, _∙_}
+use native.Mathlib.Omega.{arith}
 use borrow.Author.Needs.{needs}
 use Rattle.assignment.specs.Lent.{coveredShares, uncoveredShares}
 use Rattle.assignment.proofs.Divided.{allowed}
@@ -9,14 +10,15 @@ use Rattle.assignment.proofs.lay.Tie as tie
 share-out-requires : tie.Need-share-out-requires
 share-out-requires c κs =
     let start = c .before .before .before .before .before .before in
-    (start .pre .0, start .pre .2, allowed _ _ _ (start .pre .0 .allowed) .few)
+    (start .pre .0, search needs, allowed _ _ _ (start .pre .0 .allowed) .few)
 
 covered-first-requires : tie.Need-covered-first-requires
 covered-first-requires c κs =
     let shared = c .before .before .before .before .before in
     let start = shared .before .before .before .before .before .before .before in
     let both = allowed _ _ _ (start .pre .0 .allowed) .both in
-    (start .pre .1 ∙ both, shared .share-out .kept .1 .1 .1 .1 .0 ∙ start .pre .2 ∙ both)
+    let kept = shared .share-out .kept .1 .1 .1 .1 .0 in
+    (omega (arith, both, kept), omega (arith, both, kept))
 
 returns : tie.Need-returns
 returns c =

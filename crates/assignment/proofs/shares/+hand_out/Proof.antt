@@ -42,7 +42,7 @@ hand-out-hand-out-requires : (t : ℕ) → hand-out-lts.Need-hand-out-requires (
 hand-out-hand-out-requires t c κs =
     let start = c .before .before .before .before .before .before .before .before in
     let some = c .before .before .before .before .before .if1 .left in
-    (omega (arith, start .pre .0, some), fewer-left _ _ _ _ (start .pre .1) some (c .before .before .before .largest .ensures .1))
+    (omega (arith, start .pre .0, some), fewer-left _ _ _ _ (start .pre .1) some (c .before .before .before .largest .ensures .1) _)
 
 hand-out-same-length : (t : ℕ) → hand-out-lts.Need-same-length (largest-reads.Asked, largest-reads.Learnt, hand-out-below t, hand-out.Post) (hand-out-at t) hand-out.Post
 hand-out-same-length t c = c .before .before .before .before .hand-out .kept .1 .0 ∙ simp length-set

@@ -30,12 +30,12 @@ loop-holds c =
 loop-again : tie.Need-loop-again Inv-loop μ-loop
 loop-again c =
     let loop = c .before .before .before .before in
-    (search needs, search needs, not-smaller _ _ _ (omega arith) (omega arith) _ (loop .loop .inv .2) (c .if1 .taken))
+    (search needs, search needs, not-smaller _ _ _ (omega arith) (omega arith) _ (loop .loop .inv .2) (omega (arith, c .if1 .taken)))
 
 loop-again-2 : tie.Need-loop-again-2 Inv-loop μ-loop
 loop-again-2 c =
     let loop = c .before .before .before .before in
-    (search needs, search needs, smaller _ _ _ (omega arith) (omega arith) _ (loop .loop .inv .2) (c .if1 .left))
+    (search needs, search needs, smaller _ _ _ (omega arith) (omega arith) _ (loop .loop .inv .2) (omega (arith, c .if1 .left)))
 
 returns : tie.Need-returns Inv-loop μ-loop
 returns c =
