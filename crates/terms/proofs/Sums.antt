@@ -43,7 +43,7 @@ unfolding Σ
     omega (arith, rest, last)
 
 -- a part of the terms sums to no more than all of them
-Σ-part : (n m : ℕ) (f : ℕ → ℕ) → n ≤ m → Σ n f ≤ Σ m f
+pub Σ-part : (n m : ℕ) (f : ℕ → ℕ) → n ≤ m → Σ n f ≤ Σ m f
 unfolding Σ
 Σ-part n zero f h =
     let none : 0 ≡ n = omega (arith, h) in

@@ -1,0 +1,5 @@
+-- Laws about assignment, which the proofs of functions and the theorems cite.
+pub mod Divided
+pub mod Filled
+pub mod HandedOut
+pub mod Largest
