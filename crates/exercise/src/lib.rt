@@ -42,6 +42,7 @@ pub fn exercise(
     Verdict::Accepted
 }
 
+// Asked once the ranges hold: they keep strike times unit times the count within 64 bits.
 fn reached(right: Right, strike: u32, unit: u32, count: Contracts, offered: u64) -> bool
     requires { ⌜ requestAllowed strike unit count ≡ true ⌝ }
     ensures { λ r. ⌜ r ≡ leb (taken right strike unit count) (brought right offered) ⌝ }
