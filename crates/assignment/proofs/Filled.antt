@@ -8,7 +8,8 @@ use native.Mathlib.Omega.{arith}
 use lib.ListN.{length, getD, set}
 use lib.Seq.{getD-set-same, getD-set-other}
 use Rattle.terms.specs.Listed.{listed}
-use Rattle.terms.proofs.Listed.{listed-is}
+use Rattle.terms.proofs.Listed.{listed-is, listed-length}
+use Rattle.assignment.specs.Lent.{coveredShares, uncoveredShares}
 
 abbrev pub FilledTo : ℕ → (ℕ → ℕ) → List ℕ → Type 0
 FilledTo i f places = (k : ℕ) → k < i → getD places k 0 ≡ f k
@@ -25,3 +26,12 @@ one-filled f places i x so-far inside same k below =
 
 pub all-filled : (f : ℕ → ℕ) (places : List ℕ) (i n : ℕ) → i ≡ n → length places ≡ n → FilledTo i f places → places ≡ listed n f
 all-filled f places i n e sized so-far = listed-is n 0 places f sized (λ k h. so-far k (omega (arith, e, h)))
+
+-- a place for each account
+pub covered-sized : (covered shares : List ℕ) → length (coveredShares covered shares) ≡ length covered
+unfolding coveredShares
+covered-sized covered shares = listed-length (length covered) _
+
+pub uncovered-sized : (covered shares : List ℕ) → length (uncoveredShares covered shares) ≡ length covered
+unfolding uncoveredShares
+uncovered-sized covered shares = listed-length (length covered) _

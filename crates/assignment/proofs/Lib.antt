@@ -3,3 +3,4 @@ pub mod Divided
 pub mod Filled
 pub mod HandedOut
 pub mod Largest
+pub mod Verdicts

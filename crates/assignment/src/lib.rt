@@ -2,8 +2,7 @@
 mod shares;
 
 use rules::lesser;
-use shares::hand_out;
-use shares::whole_parts;
+use shares::share_out;
 use terms::ACCOUNTS;
 use terms::Contracts;
 use terms::Measure;
@@ -41,7 +40,10 @@ pub fn assign(
         return Verdict::Refused(Refusal::OutOfRange);
     }
     let n = short.len();
-    if (cover.len() < n) | (naked.len() < n) {
+    if cover.len() < n {
+        return Verdict::Refused(Refusal::BufferTooShort);
+    }
+    if naked.len() < n {
         return Verdict::Refused(Refusal::BufferTooShort);
     }
     lay(
@@ -77,7 +79,7 @@ fn all_totals(short: &[u32], covered: &[u32]) -> Total
     Total::Of(sum)
 }
 
-// Whole parts and leftover are gathered where the uncovered contracts are to stand, then covered ones are taken out of them.
+// The shares are gathered where the uncovered contracts are to stand, then the covered ones are taken out of them.
 fn lay(
     exercised: u32,
     total: u32,
@@ -90,10 +92,8 @@ fn lay(
     ensures covered { λ _. ⌜ now (cover .exit) ≡ coveredShares (now (covered .entry)) (assigned exercised (now (short .entry)) (now (covered .entry))) ⌝ }
     ensures uncovered { λ _. ⌜ now (naked .exit) ≡ uncoveredShares (now (covered .entry)) (assigned exercised (now (short .entry)) (now (covered .entry))) ⌝ }
 {
-    let n = short.len();
     let mut fractions = [0; ACCOUNTS];
-    let left = whole_parts(exercised, total, short, covered, naked, &mut fractions[..n]);
-    hand_out(left, naked, &mut fractions[..n]);
+    share_out(exercised, total, short, covered, naked, &mut fractions);
     covered_first(covered, cover, naked);
 }
 

@@ -3,7 +3,7 @@ ghost use mathlib.Core.Path.{_≡_};
 ghost use Prim.Native.Nat.{_*_, _/_, _%_, _≤_, _<_};
 ghost use lib.ListN.{length};
 ghost use Rattle.terms.specs.Listed.{listed};
-ghost use Rattle.assignment.specs.Assignment.{fraction, handOut, largest, leftover, wholePart};
+ghost use Rattle.assignment.specs.Assignment.{assigned, fraction, handOut, largest, leftover, wholePart};
 ghost use Rattle.assignment.specs.Steps.{Assignable, Handable, Rows};
 
 // An account's share: its whole part, and what is left over, in parts of the total.
@@ -12,8 +12,26 @@ struct Share {
     over: u32,
 }
 
-// Writes every account's share; how many contracts are left.
-pub(crate) fn whole_parts(
+// Writes every account's share: whole parts first, then what is left. The fractions are kept in places that are lent for it.
+pub(crate) fn share_out(
+    exercised: u32,
+    total: u32,
+    short: &[u32],
+    covered: &[u32],
+    shares: &mut [u32],
+    fractions: &mut [u32],
+)
+    requires { ⌜ Assignable exercised total (now short) (now covered) × Rows (now short) (now shares) × (length (now short) ≤ length (now fractions)) ⌝ }
+    ensures { λ _. ⌜ now (shares .exit) ≡ assigned exercised (now (short .entry)) (now (covered .entry)) ⌝ }
+{
+    let n = short.len();
+    let fractions = &mut fractions[..n];
+    let left = whole_parts(exercised, total, short, covered, shares, fractions);
+    hand_out(left, shares, fractions);
+}
+
+// Writes the whole part and the fraction of every share; how many contracts are left.
+fn whole_parts(
     exercised: u32,
     total: u32,
     short: &[u32],
@@ -55,7 +73,7 @@ fn share_of(exercised: u32, total: u32, s: u32) -> Share
 }
 
 // One contract to the largest fraction, which is then used up, until none is left.
-pub(crate) fn hand_out(left: u32, shares: &mut [u32], fractions: &mut [u32])
+fn hand_out(left: u32, shares: &mut [u32], fractions: &mut [u32])
     requires { ⌜ Handable left (now fractions) (now shares) ⌝ }
     ensures { λ _. ⌜ now (shares .exit) ≡ handOut left (now (fractions .entry)) (now (shares .entry)) ⌝ }
 {

@@ -87,20 +87,8 @@ returns-2 c = too-many _ _ (omega arith) (c .if2 .taken)
 loop-holds : tie.Need-loop-holds Inv-loop μ-loop
 loop-holds c = (search needs, search needs, search needs, refl, nothing-summed _, search needs)
 
-mul-s : tie.Need-mul-s Inv-loop μ-loop
-mul-s c = search needs
-
-shared-slice-read-s : tie.Need-shared-slice-read-s Inv-loop μ-loop
-shared-slice-read-s c = search needs
-
 cast-s : tie.Need-cast-s Inv-loop μ-loop
 cast-s c = omega (arith, c .shared-slice-known3 .given (c .before .before .loop .i))
-
-mul-s-2 : tie.Need-mul-s-2 Inv-loop μ-loop
-mul-s-2 c = search needs
-
-shared-slice-read-s-2 : tie.Need-shared-slice-read-s-2 Inv-loop μ-loop
-shared-slice-read-s-2 c = search needs
 
 cast-s-2 : tie.Need-cast-s-2 Inv-loop μ-loop
 cast-s-2 c = omega (arith, c .shared-slice-known4 .given (c .before .before .before .loop .i))
@@ -109,9 +97,6 @@ add-s : tie.Need-add-s Inv-loop μ-loop
 add-s c =
     let i = c .before .before .before .loop .i in
     omega (arith, c .before .shared-slice-known3 .given i, c .shared-slice-known4 .given i)
-
-allows-requires : tie.Need-allows-requires Inv-loop μ-loop
-allows-requires c κs = tt
 
 returns-3 : tie.Need-returns-3 Inv-loop μ-loop
 returns-3 c =
@@ -137,12 +122,6 @@ cast-sum c = let fits = next-small c in omega arith
 
 add-sum : tie.Need-add-sum Inv-loop μ-loop
 add-sum c = let fits = next-small c in omega arith
-
-add-i : tie.Need-add-i Inv-loop μ-loop
-add-i c = search needs
-
-loop-less : tie.Need-loop-less Inv-loop μ-loop
-loop-less c = search needs
 
 loop-again : tie.Need-loop-again Inv-loop μ-loop
 loop-again c =
@@ -170,18 +149,18 @@ all-totals-spec =
     returns
     returns-2
     loop-holds
-    mul-s
-    shared-slice-read-s
+    (λ c. search needs)
+    (λ c. search needs)
     cast-s
-    mul-s-2
-    shared-slice-read-s-2
+    (λ c. search needs)
+    (λ c. search needs)
     cast-s-2
     add-s
-    allows-requires
+    (λ c κs. tt)
     returns-3
     cast-sum
     add-sum
-    add-i
-    loop-less
+    (λ c. search needs)
+    (λ c. search needs)
     loop-again
     returns-4)

@@ -1,53 +1,40 @@
+-- `lay` meets its contract: of the shares that `share_out` writes the covered contracts are taken out.
+use mathlib.Core.Path.{ap, _∙_}
 use borrow.Author.Needs.{needs}
+use Rattle.assignment.specs.Lent.{coveredShares, uncoveredShares}
+use Rattle.assignment.proofs.Divided.{allowed}
 use Rattle.assignment.proofs.lay.Statement.{statement}
 use Rattle.assignment.proofs.lay.Tie as tie
-use Rattle.assignment.proofs.lay.Reads as reads
-use Rattle.assignment.proofs.lay.Lts as lts
-use Rattle.assignment.proofs.covered_first.Reads as covered-first-reads
-use Rattle.assignment.proofs.shares.hand_out.Reads as hand-out-reads
-use Rattle.assignment.proofs.shares.whole_parts.Reads as whole-parts-reads
 
-array-borrow-prefix-fractions : tie.Need-array-borrow-prefix-fractions
-array-borrow-prefix-fractions c = ?
-
-slice-aggregate-whole-parts : tie.Need-slice-aggregate-whole-parts
-slice-aggregate-whole-parts c = ?
-
-whole-parts-requires : tie.Need-whole-parts-requires
-whole-parts-requires c κs = ?
-
-array-borrow-prefix-fractions-2 : tie.Need-array-borrow-prefix-fractions-2
-array-borrow-prefix-fractions-2 c = ?
-
-slice-aggregate-hand-out : tie.Need-slice-aggregate-hand-out
-slice-aggregate-hand-out c = ?
-
-hand-out-requires : tie.Need-hand-out-requires
-hand-out-requires c κs = ?
+share-out-requires : tie.Need-share-out-requires
+share-out-requires c κs =
+    let start = c .before .before .before .before .before .before in
+    (start .pre .0, start .pre .2, allowed _ _ _ (start .pre .0 .allowed) .few)
 
 covered-first-requires : tie.Need-covered-first-requires
-covered-first-requires c κs = ?
-
-same-length : tie.Need-same-length
-same-length c = search needs
-
-same-length-2 : tie.Need-same-length-2
-same-length-2 c = search needs
+covered-first-requires c κs =
+    let shared = c .before .before .before .before .before in
+    let start = shared .before .before .before .before .before .before .before in
+    let both = allowed _ _ _ (start .pre .0 .allowed) .both in
+    (start .pre .1 ∙ both, shared .share-out .kept .1 .1 .1 .1 .0 ∙ start .pre .2 ∙ both)
 
 returns : tie.Need-returns
-returns c = ?
+returns c =
+    let split = c .before .before .before .before in
+    let shared = split .before .before .before .before .before .before in
+    let start = shared .before .before .before .before .before .before .before in
+    let covered = start .args .covered .now in (
+      split .covered-first .ensures .0 ∙ ap (coveredShares covered) (shared .share-out .ensures),
+      split .covered-first .ensures .1 ∙ ap (uncoveredShares covered) (shared .share-out .ensures),
+    )
 
 pub lay-spec : {M : Type 1} → statement M
 lay-spec =
     tie.close
     (tie.spec
-    array-borrow-prefix-fractions
-    slice-aggregate-whole-parts
-    whole-parts-requires
-    array-borrow-prefix-fractions-2
-    slice-aggregate-hand-out
-    hand-out-requires
+    (λ c. search needs)
+    share-out-requires
     covered-first-requires
-    same-length
-    same-length-2
+    (λ c. search needs)
+    (λ c. search needs)
     returns)

@@ -33,31 +33,10 @@ hand-out-largest-requires t c κs =
     let start = c .before .before .before .before in
     start .pre .1 .some (pos-of-ne-zero (c .before .if1 .left))
 
-hand-out-mul-shares : (t : ℕ) → hand-out-lts.Need-mul-shares (largest-reads.Asked, largest-reads.Learnt, hand-out-below t, hand-out.Post) (hand-out-at t) hand-out.Post
-hand-out-mul-shares t c = search needs
-
-hand-out-slice-read-shares : (t : ℕ) → hand-out-lts.Need-slice-read-shares (largest-reads.Asked, largest-reads.Learnt, hand-out-below t, hand-out.Post) (hand-out-at t) hand-out.Post
-hand-out-slice-read-shares t c = search needs
-
 hand-out-add-shares : (t : ℕ) → hand-out-lts.Need-add-shares (largest-reads.Asked, largest-reads.Learnt, hand-out-below t, hand-out.Post) (hand-out-at t) hand-out.Post
 hand-out-add-shares t c =
     let start = c .before .before .before .before .before .before in
     omega (arith, start .pre .1 .room (c .before .largest .result) (omega (arith, c .before .largest .ensures .1, start .pre .1 .accounts)), c .before .before .before .if1 .left)
-
-hand-out-mul-shares-2 : (t : ℕ) → hand-out-lts.Need-mul-shares-2 (largest-reads.Asked, largest-reads.Learnt, hand-out-below t, hand-out.Post) (hand-out-at t) hand-out.Post
-hand-out-mul-shares-2 t c = search needs
-
-hand-out-slice-write-shares : (t : ℕ) → hand-out-lts.Need-slice-write-shares (largest-reads.Asked, largest-reads.Learnt, hand-out-below t, hand-out.Post) (hand-out-at t) hand-out.Post
-hand-out-slice-write-shares t c = search needs
-
-hand-out-mul-fractions : (t : ℕ) → hand-out-lts.Need-mul-fractions (largest-reads.Asked, largest-reads.Learnt, hand-out-below t, hand-out.Post) (hand-out-at t) hand-out.Post
-hand-out-mul-fractions t c = search needs
-
-hand-out-slice-write-fractions : (t : ℕ) → hand-out-lts.Need-slice-write-fractions (largest-reads.Asked, largest-reads.Learnt, hand-out-below t, hand-out.Post) (hand-out-at t) hand-out.Post
-hand-out-slice-write-fractions t c = search needs
-
-hand-out-sub-hand-out : (t : ℕ) → hand-out-lts.Need-sub-hand-out (largest-reads.Asked, largest-reads.Learnt, hand-out-below t, hand-out.Post) (hand-out-at t) hand-out.Post
-hand-out-sub-hand-out t c = search needs
 
 hand-out-hand-out-requires : (t : ℕ) → hand-out-lts.Need-hand-out-requires (largest-reads.Asked, largest-reads.Learnt, hand-out-below t, hand-out.Post) (hand-out-at t) hand-out.Post
 hand-out-hand-out-requires t c κs =
@@ -82,14 +61,14 @@ pub +hand-out-spec : {M : Type 1} → statement M
     hand-out.Post
     (hand-out-returns t)
     (hand-out-largest-requires t)
-    (hand-out-mul-shares t)
-    (hand-out-slice-read-shares t)
+    (λ c. search needs)
+    (λ c. search needs)
     (hand-out-add-shares t)
-    (hand-out-mul-shares-2 t)
-    (hand-out-slice-write-shares t)
-    (hand-out-mul-fractions t)
-    (hand-out-slice-write-fractions t)
-    (hand-out-sub-hand-out t)
+    (λ c. search needs)
+    (λ c. search needs)
+    (λ c. search needs)
+    (λ c. search needs)
+    (λ c. search needs)
     (hand-out-hand-out-requires t)
     (hand-out-same-length t)
     (hand-out-same-length-2 t)

@@ -10,8 +10,6 @@ use Rattle.assignment.specs.Assignment.{largest}
 use Rattle.assignment.proofs.Largest.{last-alone, not-smaller, smaller}
 use Rattle.assignment.proofs.shares.largest.Statement.{statement}
 use Rattle.assignment.proofs.shares.largest.Tie as tie
-use Rattle.assignment.proofs.shares.largest.Reads as reads
-use Rattle.assignment.proofs.shares.largest.Lts as lts
 
 abbrev Inv-loop : tie.InvT-loop
 Inv-loop fractions at₀ best₀ at best = (at < length fractions) × (best < length fractions) × (best ≡ at + largest (drop at fractions))
@@ -24,39 +22,15 @@ done : (fractions : List ℕ) (at : ℕ) → at ≤ 0 → at + largest (drop at 
 done fractions zero h = omega arith
 done fractions (suc k) h = absurd (not-suc-le-zero h)
 
-sub-at : tie.Need-sub-at Inv-loop μ-loop
-sub-at c = search needs
-
 loop-holds : tie.Need-loop-holds Inv-loop μ-loop
 loop-holds c =
     let n = length (c .args .fractions .now) in
     (search needs, search needs, last-alone (c .args .fractions .now) (n - 1) n (omega arith) (omega arith) (omega arith))
 
-sub-at-2 : tie.Need-sub-at-2 Inv-loop μ-loop
-sub-at-2 c = search needs
-
-mul-if1 : tie.Need-mul-if1 Inv-loop μ-loop
-mul-if1 c = search needs
-
-shared-slice-read-if1 : tie.Need-shared-slice-read-if1 Inv-loop μ-loop
-shared-slice-read-if1 c = search needs
-
-mul-if1-2 : tie.Need-mul-if1-2 Inv-loop μ-loop
-mul-if1-2 c = search needs
-
-shared-slice-read-if1-2 : tie.Need-shared-slice-read-if1-2 Inv-loop μ-loop
-shared-slice-read-if1-2 c = search needs
-
-loop-less : tie.Need-loop-less Inv-loop μ-loop
-loop-less c = search needs
-
 loop-again : tie.Need-loop-again Inv-loop μ-loop
 loop-again c =
     let loop = c .before .before .before .before in
     (search needs, search needs, not-smaller _ _ _ (omega arith) (omega arith) _ (loop .loop .inv .2) (c .if1 .taken))
-
-loop-less-2 : tie.Need-loop-less-2 Inv-loop μ-loop
-loop-less-2 c = search needs
 
 loop-again-2 : tie.Need-loop-again-2 Inv-loop μ-loop
 loop-again-2 c =
@@ -74,15 +48,15 @@ largest-spec =
     (tie.spec
     Inv-loop
     μ-loop
-    sub-at
+    (λ c. search needs)
     loop-holds
-    sub-at-2
-    mul-if1
-    shared-slice-read-if1
-    mul-if1-2
-    shared-slice-read-if1-2
-    loop-less
+    (λ c. search needs)
+    (λ c. search needs)
+    (λ c. search needs)
+    (λ c. search needs)
+    (λ c. search needs)
+    (λ c. search needs)
     loop-again
-    loop-less-2
+    (λ c. search needs)
     loop-again-2
     returns)

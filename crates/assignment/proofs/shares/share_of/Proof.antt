@@ -7,8 +7,6 @@ use borrow.Author.Needs.{needs}
 use Rattle.terms.proofs.Product.{product-fits}
 use Rattle.assignment.proofs.shares.share_of.Statement.{statement}
 use Rattle.assignment.proofs.shares.share_of.Tie as tie
-use Rattle.assignment.proofs.shares.share_of.Reads as reads
-use Rattle.assignment.proofs.shares.share_of.Lts as lts
 
 quotient : (E T s : ℕ) → E ≤ T → E * s / T ≤ s
 quotient E T s h = div-le-of-le-mul T (mul-le-mul-right s h)

@@ -14,9 +14,6 @@ use Rattle.assignment.proofs.Divided.{Allowed, allowed, wholes-within}
 use Rattle.assignment.proofs.Filled.{FilledTo, none-filled, one-filled, all-filled}
 use Rattle.assignment.proofs.shares.whole_parts.Statement.{statement}
 use Rattle.assignment.proofs.shares.whole_parts.Tie as tie
-use Rattle.assignment.proofs.shares.whole_parts.Reads as reads
-use Rattle.assignment.proofs.shares.whole_parts.Lts as lts
-use Rattle.assignment.proofs.shares.share_of.Reads as share-of-reads
 
 abbrev Inv-loop : tie.InvT-loop
 Inv-loop exercised total short covered shares₀ fractions₀ left₀ i₀ shares fractions left i =
@@ -76,15 +73,6 @@ loop-holds c =
     let start = c .before .before .before .before in
     (search needs, search needs, search needs, none-filled _ (start .args .shares .now), none-filled _ (start .args .fractions .now), nothing-summed _ _)
 
-mul-share-of : tie.Need-mul-share-of Inv-loop μ-loop
-mul-share-of c = search needs
-
-shared-slice-read-share-of : tie.Need-shared-slice-read-share-of Inv-loop μ-loop
-shared-slice-read-share-of c = search needs
-
-mul-share-of-2 : tie.Need-mul-share-of-2 Inv-loop μ-loop
-mul-share-of-2 c = search needs
-
 shared-slice-read-share-of-2 : tie.Need-shared-slice-read-share-of-2 Inv-loop μ-loop
 shared-slice-read-share-of-2 c =
     let loop = c .before .before .before in
@@ -102,18 +90,6 @@ share-of-requires c κs =
     let start = c .before .before .before .before .before .before .before .before in
     enough _ _ _ _ (start .pre .0)
 
-mul-shares : tie.Need-mul-shares Inv-loop μ-loop
-mul-shares c = search needs
-
-slice-write-shares : tie.Need-slice-write-shares Inv-loop μ-loop
-slice-write-shares c = search needs
-
-mul-fractions : tie.Need-mul-fractions Inv-loop μ-loop
-mul-fractions c = search needs
-
-slice-write-fractions : tie.Need-slice-write-fractions Inv-loop μ-loop
-slice-write-fractions c = search needs
-
 sub-left : tie.Need-sub-left Inv-loop μ-loop
 sub-left c =
     let loop = c .before .before .before .before .before in
@@ -121,12 +97,6 @@ sub-left c =
     let whole = its-whole _ _ _ _ (start .pre .0) (loop .loop .i) _ (c .before .share-of .ensures .0) in
     let within = next-within _ _ _ _ (start .pre .0) _ _ (search needs) (loop .loop .inv .5) in
     omega (arith, whole, within)
-
-add-i : tie.Need-add-i Inv-loop μ-loop
-add-i c = search needs
-
-loop-less : tie.Need-loop-less Inv-loop μ-loop
-loop-less c = search needs
 
 loop-again : tie.Need-loop-again Inv-loop μ-loop
 loop-again c =
@@ -142,12 +112,6 @@ loop-again c =
       one-filled _ (loop .loop .fractions) _ _ (loop .loop .inv .4) (search needs) rest,
       omega (arith, whole, fewer),
     )
-
-same-length : tie.Need-same-length Inv-loop μ-loop
-same-length c = search needs
-
-same-length-2 : tie.Need-same-length-2 Inv-loop μ-loop
-same-length-2 c = search needs
 
 returns : tie.Need-returns Inv-loop μ-loop
 returns c =
@@ -168,20 +132,20 @@ whole-parts-spec =
     Inv-loop
     μ-loop
     loop-holds
-    mul-share-of
-    shared-slice-read-share-of
-    mul-share-of-2
+    (λ c. search needs)
+    (λ c. search needs)
+    (λ c. search needs)
     shared-slice-read-share-of-2
     add-share-of
     share-of-requires
-    mul-shares
-    slice-write-shares
-    mul-fractions
-    slice-write-fractions
+    (λ c. search needs)
+    (λ c. search needs)
+    (λ c. search needs)
+    (λ c. search needs)
     sub-left
-    add-i
-    loop-less
+    (λ c. search needs)
+    (λ c. search needs)
     loop-again
-    same-length
-    same-length-2
+    (λ c. search needs)
+    (λ c. search needs)
     returns)
