@@ -1,4 +1,4 @@
-# The second working: its own tests, which hold it to the stored answers of `cases`, `edges` and `runs` too; and those that hold the crates'
+# The second working: its own tests, which hold it to the stored answers of `cases`, `edges`, `runs` and `expiry` too; and those that hold the crates'
 # source, as rustc compiles it, and the version that is written for speed to it.
 set -eu
 cd "$(dirname "$0")/.."
