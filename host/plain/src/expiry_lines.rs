@@ -32,10 +32,12 @@ fn answer_line(number: usize, line: &[u8]) -> String {
         .collect();
     let fits = line.len() <= LONGEST_LINE;
     let remark = words.first().map_or(true, |word| word[0] == b'#');
-    match question(&words) {
-        _ if fits && remark => String::new(),
-        Some(question) if fits => question.answer() + "\n",
-        _ => format!("unreadable {number}\n"),
+    if fits && remark {
+        return String::new();
+    }
+    match question(&words).filter(|_| fits) {
+        Some(question) => question.answer() + "\n",
+        None => format!("unreadable {number}\n"),
     }
 }
 

@@ -163,13 +163,14 @@ fn nothing(chance: &mut Chance) -> Line {
 fn unread(chance: &mut Chance, words: &mut Vec<Vec<u8>>) {
     let last = words.len() as i64 - 1;
     let at = chance.between(0, last) as usize;
-    match chance.weighted(&[20, 20, 20, 20, 10, 10]) {
+    match chance.weighted(&[20, 20, 20, 20, 10, 10, 10]) {
         // One less or one more is too few or too many fields, or half an account.
         0 => drop(words.remove(at)),
         1 => words.insert(at + 1, b"0".to_vec()),
         2 => too_wide(chance, words, at.max(1)),
         3 => strange_byte(chance, &mut words[at]),
         4 => words[0] = first_word(chance),
+        5 => words[at.max(1)].insert(0, chance.pick(b"+-")),
         _ => words[1] = right(chance),
     }
 }

@@ -10,11 +10,14 @@ pub fn exercise_verdict(request: &Request) -> u64 {
         && units().any(|unit| unit == request.unit);
     let held = request.held;
     let netted = held.long - held.short - held.covered;
-    match () {
-        _ if !in_range => 4,
-        _ if netted < i64::from(request.count) => 22,
-        _ if request.offered < means_of_one(request) * u64::from(request.count) => 23,
-        _ => 0,
+    if !in_range {
+        4
+    } else if netted < i64::from(request.count) {
+        22
+    } else if request.offered < means_of_one(request) * u64::from(request.count) {
+        23
+    } else {
+        0
     }
 }
 
@@ -27,15 +30,23 @@ fn means_of_one(request: &Request) -> u64 {
 }
 
 pub fn assign_verdict(exercised: u32, accounts: &[Obligation]) -> u64 {
-    let all: u64 = accounts.iter().map(Obligation::total).sum();
-    let in_range = u64::from(exercised) <= all
+    let in_range = u64::from(exercised) <= all(accounts)
         && accounts.len() <= 256
-        && accounts.iter().all(|account| account.total() <= 10_000);
+        && accounts.iter().all(|account| total(account) <= 10_000);
     if in_range {
         0
     } else {
         4
     }
+}
+
+/// Added up here too: the second working's own sum is on trial with the rest of it.
+fn total(account: &Obligation) -> u64 {
+    [account.short, account.covered].map(u64::from).iter().sum()
+}
+
+fn all(accounts: &[Obligation]) -> u64 {
+    accounts.iter().map(total).sum()
 }
 
 /// An accepted assignment: what one account has and is given.
@@ -75,13 +86,13 @@ impl Assignment {
     ) -> Result<Assignment, String> {
         stands(numbers.len() == 2 * accounts.len(), "two for each account")?;
         let exercised = u64::from(exercised);
-        let all: u64 = accounts.iter().map(Obligation::total).sum();
+        let all = all(accounts);
         let part = |(has, pair): (&Obligation, &[u64])| Part {
             has: *has,
             covered: pair[0],
             uncovered: pair[1],
-            whole: (exercised * has.total()).checked_div(all).unwrap_or(0),
-            remainder: (exercised * has.total()).checked_rem(all).unwrap_or(0),
+            whole: (exercised * total(has)).checked_div(all).unwrap_or(0),
+            remainder: (exercised * total(has)).checked_rem(all).unwrap_or(0),
         };
         let parts = accounts.iter().zip(numbers.chunks(2)).map(part).collect();
         Ok(Assignment {
@@ -96,7 +107,7 @@ impl Assignment {
         stands(sum == self.exercised, "they add up to what is exercised")?;
         for part in &self.parts {
             let (short, covered) = (part.has.short.into(), part.has.covered.into());
-            stands(part.given() <= part.has.total(), "none passes its total")?;
+            stands(part.given() <= total(&part.has), "none passes its total")?;
             stands(
                 part.covered <= covered && part.uncovered <= short,
                 "each is there",

@@ -1,5 +1,5 @@
-//! `expiry COUNT SEED PROGRAM [ARGS..]` asks a program COUNT random questions of an expiry day and holds its answers to those of `plain`, and
-//! those to what is stated.
+//! `expiry COUNT SEED PROGRAM [ARGS..]` asks a program COUNT random questions of an expiry day and holds its answers to those of `plain`,
+//! and those to what is stated.
 
 use plain::expiry_lines::printed;
 use std::process::exit;
