@@ -1,6 +1,7 @@
 -- What the theorems speak of besides the crates' own definitions.
 pub mod Each
 pub mod EveryEntry
+pub mod Expiry
 pub mod Gift
 pub mod GiftRuns
 pub mod InOrder
