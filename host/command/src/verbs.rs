@@ -122,18 +122,18 @@ FILE is text of any length, a question on a line. Without one standard input is
 read, and each question is answered as soon as its line is whole. A line that begins
 with `#` is a remark.
 
-  exercise RIGHT STRIKE UNIT LONG SHORT COVERED COUNT OFFERED
-  exercise call 26000 10000 5 2 0 3 7800000
-asks whether COUNT contracts can be exercised: 0, or the number of the refusal.
-RIGHT is call or put, STRIKE in 0.0001 yuan, UNIT in units of the underlying. LONG,
-SHORT and COVERED are the account's position in contracts, before netting. OFFERED
-is in fen for a call and in units of the underlying for a put.
-
-  assign E SHORT COVERED ..
-  assign 7176 1700 0 2500 0 1900 0 1900 0
-assigns E exercised contracts to accounts, each with the short and the covered
-contracts that it has after netting: 0 and for each account the covered and the
-short contracts assigned to it, as 0 0 1525 0 2243 0 1704 0 1704; or the refusal.
+exercise RIGHT STRIKE UNIT LONG SHORT COVERED COUNT OFFERED
+  asks whether COUNT contracts can be exercised from a position, which is netted
+  first. RIGHT is call or put, STRIKE in 0.0001 yuan, UNIT in units of the underlying,
+  LONG, SHORT, COVERED and COUNT in contracts; OFFERED is in fen for a call, in units
+  of the underlying for a put. The answer is 0 or the refusal's number:
+  `exercise call 26000 10000 5 2 0 3 7800000` is answered `0`.
+assign E SHORT COVERED ..
+  assigns E exercised contracts to up to 256 accounts, each with the short and the
+  covered contracts that it has after netting. The answer is 0 and for each account
+  the covered and the short contracts assigned to it, or the refusal's number:
+  `assign 7176 1700 0 2500 0 1900 0 1900 0` is answered
+  `0 0 1525 0 2243 0 1704 0 1704`.
 
 `unreadable N` answers line N where it is neither. `ravundesk refusals` lists the
 refusals. The first use proves and builds the program, which takes some minutes and
