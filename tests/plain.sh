@@ -1,5 +1,5 @@
-# The second working: its own tests, which hold it to the stored answers of `cases`, `edges` and `runs` too; and those that hold the crates'
-# source, as rustc compiles it, and the version that is written for speed to it.
+# The second working: its own tests, which hold it to the stored answers of `cases`, `edges`, `runs` and `expiry` too; and those that hold
+# the crates' source, as rustc compiles it, and the version that is written for speed to it.
 set -eu
 cd "$(dirname "$0")/.."
 said=$(sh tests/cargo.sh test 2>&1) || {

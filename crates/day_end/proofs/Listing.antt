@@ -1,4 +1,4 @@
--- A list of n rows is what is listed row by row, since it is told by its length and its rows; so a pass that sets one row after the other has listed the rows so far.
+-- A pass that sets one row after the other has listed the rows so far, since a list is told by its length and its rows.
 use mathlib.Core.Path.{_≡_, sym, ap, _∙_}
 use mathlib.Core.Logic.{_≢_}
 use mathlib.Core.Bool.{Bool, cond}
@@ -9,9 +9,9 @@ use native.Mathlib.Omega.{arith}
 use borrow.Author.Tests.{lt-ltb, le-ltb}
 use lib.Dec.{ltb}
 use lib.ListN.{length, getD, set, length-set, length-map, List·getD-map}
-use lib.Seq.{ext-getD, getD-set-same, getD-set-other}
+use lib.Seq.{getD-set-same, getD-set-other}
 use Rattle.terms.specs.Listed.{listed}
-use Rattle.terms.proofs.Listed.{listed-length, listed-at}
+use Rattle.terms.proofs.Listed.{listed-is, listed-length, listed-at}
 use Rattle.day_end.specs.Passes.{changedTo}
 
 same-test : (j k : ℕ) → j ≢ k → ltb j k ≡ ltb j (k + 1)
@@ -22,15 +22,10 @@ same-test j k other =
     ]
 
 module _ {A : Type 0} (n : ℕ) (none : A) where
-  pub listed-is : (l : List A) (f : ℕ → A) → length l ≡ n → ((i : ℕ) → i < n → getD l i none ≡ f i) → l ≡ listed n f
-  listed-is l f rows each =
-      ext-getD none l (listed n f) (rows ∙ sym (listed-length n f))
-      (λ i h. let there : i < n = omega (arith, h, rows) in each i there ∙ sym (listed-at n f i none there))
-
   -- one row set, the others the same
   pub listed-set : (f g : ℕ → A) (i : ℕ) (x : A) → i < n → x ≡ g i → ((j : ℕ) → j < n → j ≢ i → f j ≡ g j) → set (listed n f) i x ≡ listed n g
   listed-set f g i x h same others =
-      listed-is (set (listed n f) i x) g (length-set (listed n f) i x ∙ listed-length n f)
+      listed-is n none (set (listed n f) i x) g (length-set (listed n f) i x ∙ listed-length n f)
       (λ j there.
       elim (ℕ-discrete j i) [
         | yes e ↦
@@ -45,7 +40,7 @@ module _ {A : Type 0} (n : ℕ) (none : A) where
   module _ (change : ℕ → A → A) (rows : List A) (size : length rows ≡ n) where
     pub none-changed : rows ≡ changedTo n none change rows 0
     unfolding changedTo
-    none-changed = listed-is rows _ size (λ i h. rw (le-ltb i 0 (omega arith)))
+    none-changed = listed-is n none rows _ size (λ i h. rw (le-ltb i 0 (omega arith)))
 
     -- the next row is as it was
     next : (k : ℕ) → k < n → getD (changedTo n none change rows k) k none ≡ getD rows k none
@@ -66,5 +61,5 @@ module _ {A : Type 0} (n : ℕ) (none : A) where
   unfolding changedTo
   each-changed f rows size empty =
       sym
-      (listed-is (map f rows) _ (length-map rows f ∙ size)
+      (listed-is n none (map f rows) _ (length-map rows f ∙ size)
       (λ i h. ap (getD (map f rows) i) (sym empty) ∙ List·getD-map f rows i none ∙ rw (lt-ltb i n h)))

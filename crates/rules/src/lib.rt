@@ -70,7 +70,7 @@ pub fn net(position: Position) -> Position
     }
 }
 
-fn lesser(a: u32, b: u32) -> u32
+pub fn lesser(a: u32, b: u32) -> u32
     ensures { λ r. ⌜ r ≡ min a b ⌝ }
 {
     if a < b { a } else { b }

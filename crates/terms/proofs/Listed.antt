@@ -10,7 +10,7 @@ use native.Mathlib.Omega.{arith}
 use borrow.Author.Tests.{lt-ltb}
 use lib.Dec.{ltb}
 use lib.ListN.{length, getD, length-append, length-map, List·getD-append}
-use lib.Seq.{getD-at}
+use lib.Seq.{ext-getD, getD-at}
 use Rattle.terms.proofs.Ranges.{both-hold, first-holds, second-holds}
 use Rattle.terms.specs.Listed.{listed, every}
 
@@ -25,6 +25,12 @@ listed-at (suc n) f i none h =
       | inl e ↦ ap (λ (k : ℕ). getD (listed n f ++ f n ∷ []) k none) e ∙ getD-at (listed n f) (f n) [] none n (listed-length n f) ∙ ap f (sym e)
       | inr l ↦ List·getD-append (listed n f) (f n ∷ []) none i (omega (arith, l, listed-length n f)) ∙ listed-at n f i none l
     ]
+
+-- a list of n rows is what is listed row by row, since it is told by its length and its rows
+pub listed-is : {A : Type 0} (n : ℕ) (none : A) (l : List A) (f : ℕ → A) → length l ≡ n → ((i : ℕ) → i < n → getD l i none ≡ f i) → l ≡ listed n f
+listed-is n none l f rows each =
+    ext-getD none l (listed n f) (rows ∙ sym (listed-length n f))
+    (λ i h. let there : i < n = omega (arith, h, rows) in each i there ∙ sym (listed-at n f i none there))
 
 -- where the first so many rows are put in and the others stay
 pub listed-below : {A : Type 0} (n m : ℕ) (new old : ℕ → A) (i : ℕ) (none : A) → m ≤ n → i < m → getD (listed n (λ j. cond (ltb j m) (new j) (old j))) i none ≡ new i

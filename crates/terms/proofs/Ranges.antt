@@ -20,6 +20,10 @@ second-holds false false h = h
 pub both-hold : (a b : Bool) → a ≡ true → b ≡ true → (a && b) ≡ true
 both-hold a b h h' = rw (h, h')
 
+pub second-fails : (a b : Bool) → b ≡ false → (a && b) ≡ false
+second-fails true b h = h
+second-fails false b h = refl
+
 pub inside : (x : ℕ) (range : Range) → (x ∈ range) ≡ true → (range .0 ≤ x) × (x ≤ range .1)
 inside x range h =
     let from = leb (range .0) x in

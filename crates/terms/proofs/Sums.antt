@@ -33,6 +33,23 @@ unfolding Σ
     let last = e n (omega arith) in
     omega (arith, rest, last)
 
+-- .. and one that is smaller makes it smaller
+pub Σ-more : (n i : ℕ) (f g : ℕ → ℕ) → i < n → ((j : ℕ) → j < n → f j ≤ g j) → f i < g i → Σ n f < Σ n g
+unfolding Σ
+Σ-more zero i f g h e less = absurd (not-suc-le-zero h)
+Σ-more (suc n) i f g h e less =
+    elim (eq-or-lt-of-le (le-of-suc-le-suc h)) [
+      | inl same ↦
+          let rest = Σ-less n f g (λ j l. e j (omega (arith, l))) in
+          let one = ap f same in
+          let other = ap g same in
+          omega (arith, rest, one, other, less)
+      | inr below ↦
+          let rest = Σ-more n i f g below (λ j l. e j (omega (arith, l))) less in
+          let last = e n (omega arith) in
+          omega (arith, rest, last)
+    ]
+
 -- a bound on each term bounds the sum
 pub Σ-bound : (n : ℕ) (f : ℕ → ℕ) (most : ℕ) → ((i : ℕ) → i < n → f i ≤ most) → Σ n f ≤ n * most
 unfolding Σ
@@ -43,7 +60,7 @@ unfolding Σ
     omega (arith, rest, last)
 
 -- a part of the terms sums to no more than all of them
-Σ-part : (n m : ℕ) (f : ℕ → ℕ) → n ≤ m → Σ n f ≤ Σ m f
+pub Σ-part : (n m : ℕ) (f : ℕ → ℕ) → n ≤ m → Σ n f ≤ Σ m f
 unfolding Σ
 Σ-part n zero f h =
     let none : 0 ≡ n = omega (arith, h) in

@@ -1,9 +1,11 @@
-//! Document 01, with document 02's paying out in two steps and its shorter refusal list, written once more in ordinary Rust, from the
-//! documents alone: clear rather than quick, every sum made anew.
+//! Document 01, with document 02's paying out in two steps, its shorter refusal list and its expiry day, written once more in ordinary
+//! Rust, from the documents alone: clear rather than quick, every sum made anew.
 
 pub mod account;
 pub mod book;
 pub mod entry;
+pub mod expiry;
+pub mod expiry_lines;
 pub mod program;
 pub mod record;
 pub mod rules;

@@ -1,17 +1,22 @@
 //! Lines of worked examples: what a line asks, and the answer that `plain` gives. A line that asks nothing is a remark. And books, whose
-//! records `plain` answers too.
+//! records `plain` answers too; and questions of an expiry day.
 
+pub mod assigning;
 pub mod booking;
 pub mod cases;
 pub mod chance;
 pub mod damaging;
 pub mod edges;
 pub mod examples;
+pub mod exercising;
+pub mod expiring;
 pub mod making;
 pub mod ordering;
 pub mod paying;
+pub mod reached;
 pub mod runs;
 pub mod setting_up;
+pub mod stated;
 pub mod tables;
 pub mod telling;
 pub mod trial;

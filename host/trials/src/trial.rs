@@ -1,9 +1,9 @@
 //! A program on trial: what the command line asks, what the program writes held to what is expected, and the verdicts that were met.
 
-use std::fmt;
 use std::io::{Read, Write};
-use std::process::{exit, Child, Command, Stdio};
-use std::thread;
+use std::path::PathBuf;
+use std::process::{self, exit, Child, Command, Stdio};
+use std::{env, fmt, fs, thread};
 
 pub struct Trial {
     pub count: u64,
@@ -14,7 +14,7 @@ pub struct Trial {
 impl Trial {
     /// As the command line asks; where it does not, a line says how it is used.
     pub fn asked(name: &str) -> Trial {
-        let mut words = std::env::args().skip(1);
+        let mut words = env::args().skip(1);
         Trial::of(&mut words).unwrap_or_else(|| {
             eprintln!("{name} COUNT SEED PROGRAM [ARGS..]");
             exit(2)
@@ -94,13 +94,27 @@ fn shown(line: Option<&&str>) -> String {
     }
 }
 
+/// Puts what a program failed on into a file, and says where it is.
+pub fn kept(what: &str, bytes: &[u8]) -> String {
+    let name = format!("ravundesk-{}.{what}", process::id());
+    let path: PathBuf = env::temp_dir().join(name);
+    match fs::write(&path, bytes) {
+        Ok(()) => format!("the {what} is in {}", path.display()),
+        Err(error) => format!("{} can't be written: {error}", path.display()),
+    }
+}
+
 /// How often each verdict was met, acceptance at 0.
 #[derive(Default)]
-pub struct Verdicts([u64; 21]);
+pub struct Verdicts([u64; 24]);
 
 impl Verdicts {
     pub fn meet(&mut self, verdict: usize) {
         self.0[verdict] += 1;
+    }
+
+    pub fn met(&self, verdict: usize) -> u64 {
+        self.0[verdict]
     }
 
     pub fn all(&self) -> u64 {

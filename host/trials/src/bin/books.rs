@@ -2,12 +2,10 @@
 //! prints to the telling books' own lines and to what `plain` prints.
 
 use plain::program::printed;
-use std::path::PathBuf;
 use std::process::exit;
-use std::{env, fs};
 use trials::booking::book;
 use trials::telling;
-use trials::trial::{Trial, Verdicts};
+use trials::trial::{kept, Trial, Verdicts};
 
 fn main() {
     let trial = Trial::asked("books");
@@ -33,20 +31,11 @@ fn main() {
 /// Where the program prints something else, the report is printed, with the file that has the book, and nothing more is tried.
 fn hold(trial: &Trial, name: &str, bytes: &[u8], lines: &str, verdicts: &mut Verdicts) {
     if let Err(report) = trial.hold(bytes.to_vec(), lines) {
-        println!("{name}, {report}\n{}", kept(bytes));
+        println!("{name}, {report}\n{}", kept("book", bytes));
         exit(1);
     }
     for line in lines.lines() {
         let verdict = line.split(' ').nth(1).and_then(|word| word.parse().ok());
         verdicts.meet(verdict.expect("a line has a verdict"));
-    }
-}
-
-fn kept(bytes: &[u8]) -> String {
-    let name = format!("ravundesk-{}.book", std::process::id());
-    let path: PathBuf = env::temp_dir().join(name);
-    match fs::write(&path, bytes) {
-        Ok(()) => format!("the book is in {}", path.display()),
-        Err(error) => format!("{} can't be written: {error}", path.display()),
     }
 }

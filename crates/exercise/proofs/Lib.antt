@@ -1,0 +1,2 @@
+-- Laws of a request for exercise.
+pub mod Good

@@ -1,0 +1,2 @@
+-- What a request for exercise is judged by.
+pub mod Exercise

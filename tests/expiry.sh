@@ -1,0 +1,7 @@
+# expiry.sh COUNT SEED: asks the program `expiry` COUNT random questions near the edges and holds its answers to the second working, and
+# every assignment to what is stated of it. The same seed makes the same questions.
+set -eu
+cd "$(dirname "$0")/.."
+[ -x target/bin/expiry ] || rt check expiry
+sh tests/cargo.sh build
+exec host/target/release/expiry "$1" "$2" sh tests/program.sh expiry
