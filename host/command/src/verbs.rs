@@ -136,8 +136,8 @@ assign E SHORT COVERED ..
   `0 0 1525 0 2243 0 1704 0 1704`.
 
 `unreadable N` answers line N where it is neither. `ravundesk refusals` lists the
-refusals. The first use proves and builds the program, which takes some minutes and
-needs the Rattle toolchain.",
+refusals. The first use proves and builds the program, which takes a minute or two
+and needs the Rattle toolchain.",
         options: &[],
         operands: 1,
         run: expiry::expiry,
