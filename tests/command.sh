@@ -51,10 +51,12 @@ status() {
 }
 
 # What has to be built is built, and told of, before anything is held to what is said.
-./ravundesk book </dev/null 2>"$place/built" || {
-    cat "$place/built"
-    exit 1
-}
+for verb in book expiry; do
+    ./ravundesk "$verb" </dev/null 2>"$place/built" || {
+        cat "$place/built"
+        exit 1
+    }
+done
 
 # The proved program's lines are those told by hand, and so are the source's; a book's text is the book.
 for name in day refusals payout; do
@@ -78,12 +80,12 @@ done
 # Files that can't be read, and how it is called.
 cd "$place"
 mkdir "days of may"
-for verb in run account show write book; do
+for verb in run account show write book expiry; do
     refuses "there is no file day.book" "$verb" day.book
     refuses "days of may is a directory" "$verb" "days of may"
 done
 refuses "a verb is missing; \`ravundesk help\` lists them"
-refuses "there is no verb \`rum\`; the verbs are run, account, write, show, book, refusals, records, version, help" rum
+refuses "there is no verb \`rum\`; the verbs are run, account, write, show, book, expiry, refusals, records, version, help" rum
 refuses "run: it has no option --all; usage: ravundesk run [FILE] [--refused | --lines | --quiet] [--text | --records]" run --all
 refuses "show: \`b\` is one operand too many; usage: ravundesk show [BOOK]" show a b
 refuses "refusals: \`a\` is one operand too many; usage: ravundesk refusals [--markdown]" refusals a
@@ -93,7 +95,7 @@ refuses "account: --after takes a number of records; usage: ravundesk account [F
 refuses "--after takes a number of records, and not \`-1\`" account --after -1
 refuses "there is no record 11, only 10" account --after 11 "$root/examples/day.book"
 refuses "run: --quiet takes no value; usage: ravundesk run [FILE] [--refused | --lines | --quiet] [--text | --records]" run --quiet=1
-for verb in run account write show book refusals records version help; do
+for verb in run account write show book expiry refusals records version help; do
     call 0 "$verb" --help
     call 0 help "$verb"
     grep -q "^usage: ravundesk $verb" out || fail "no help on $verb"
@@ -111,7 +113,7 @@ prints "10 records, 9 accepted, 1 refused; available 5940.00"
 : >empty
 head -c 100 /dev/zero >zeros
 head -c 70000 /dev/zero | tr '\0' '\377' >long
-for verb in run book show write; do
+for verb in run book expiry show write; do
     call 0 "$verb" empty
     prints ""
 done
@@ -150,19 +152,71 @@ call 2 run wrong.txt
 [ "$(wc -l <out)" = 1 ] || fail "the lines before a wrong one are not answered"
 refuses "nowhere/day.book can't be written: no such file or directory" write "$root/examples/day.txt" --to nowhere/day.book
 
-# Output that can't be written.
-for verb in run account show book; do
+# Questions: the worst answer has the status, and a line that is none does not keep the others from theirs.
+told expiry.txt >told
+[ -s told ] || fail "no lines told for expiry.txt"
+sed 's/$/\r/' "$root/examples/expiry.txt" >returns.txt
+for file in "$root/examples/expiry.txt" returns.txt; do
+    call 1 expiry "$file"
+    cmp out told || fail "expiry: other lines than those told for expiry.txt"
+    [ ! -s err ] || fail "expiry: something is said"
+    call 1 expiry <"$file"
+    cmp out told || fail "expiry, by standard input: other lines than those told for expiry.txt"
+done
+printf '\t# Nothing is asked in the first three lines.\n \t\n\nassign 1 1 0\nassign one 1 0\n assign\t2  1 0 \nassign 1 0 1' >wrong.txt
+call 2 expiry wrong.txt
+prints "0 0 1
+unreadable 5
+4
+0 1 0"
+says "wrong.txt has 1 line that can't be read; a question is \`exercise RIGHT STRIKE UNIT LONG SHORT COVERED COUNT OFFERED\` or \`assign E SHORT COVERED ..\`"
+for file in zeros long; do
+    call 2 expiry "$file"
+    prints "unreadable 1"
+done
+seq 1 6000 | sed 's/.*/assign & & 0/' >many.txt
+[ "$(wc -c <many.txt)" -gt 65536 ] || fail "many.txt is short"
+call 0 expiry many.txt
+seq 1 6000 | sed 's/^/0 0 /' | cmp - out || fail "expiry: other answers to many questions"
+
+# In a pipe: each question is answered before the next is asked, and when nobody reads the answers any more, nobody waits for questions.
+mkfifo questions
+"$root/ravundesk" expiry <questions >out 2>err &
+exec 3>questions
+for count in 1 2 3; do
+    echo "assign $count 9 0" >&3
+    tries=600
+    until [ "$(wc -l <out)" = "$count" ]; do
+        tries=$((tries - 1))
+        [ "$tries" -gt 0 ] || fail "expiry: question $count is not answered while the pipe is open"
+        sleep 0.05
+    done
+done
+exec 3>&-
+wait "$!" || fail "status $? of questions in a pipe"
+yes 'assign 1 1 0' | {
     got=0
-    "$root/ravundesk" "$verb" "$root/examples/day.book" >/dev/full 2>err || got=$?
+    "$root/ravundesk" expiry 2>err || got=$?
+    echo "$got" >status
+} | head -n 1 >out
+prints "0 0 1"
+[ "$(cat status)" = 2 ] || fail "expiry: status $(cat status) with a reader that is gone"
+says "standard output was closed before all was written"
+
+# Output that can't be written.
+for verb in run account show book expiry; do
+    case $verb in expiry) file=expiry.txt ;; *) file=day.book ;; esac
+    got=0
+    "$root/ravundesk" "$verb" "$root/examples/$file" >/dev/full 2>err || got=$?
     [ "$got" = 2 ] || fail "$verb: status $got with a full disk"
     says "standard output can't be written: no space left on device"
     got=0
-    "$root/ravundesk" "$verb" "$root/examples/day.book" >&- 2>err || got=$?
+    "$root/ravundesk" "$verb" "$root/examples/$file" >&- 2>err || got=$?
     [ "$got" = 2 ] || fail "$verb: status $got with standard output closed"
     says "standard output is closed"
 done
 # Input that is closed matters where it would be read.
-for verb in run account show write book; do refuses "standard input is closed" "$verb" - <&-; done
+for verb in run account show write book expiry; do refuses "standard input is closed" "$verb" - <&-; done
 call 1 run --quiet "$root/examples/day.book" <&-
 {
     got=0

@@ -21,6 +21,7 @@ mkdir -m 1777 "$TMPDIR"
 make_small_tree
 two_first_uses
 changes
+second_program
 stops
 refusals
 uses

@@ -88,3 +88,38 @@ other_verbs() {
     [ "$(wc -l <"$place/out")" = 1 ] || fail "version sees a program that is not installed"
     mv "$place/book" "$small/.ravundesk/book"
 }
+
+# A second program beside the first: each is built by its own verb alone, and of its own crates.
+second_program() {
+    silent "$small/ravundesk" expiry --help
+    [ ! -e "$small/.ravundesk/expiry" ] || fail "a program is built before it is asked for"
+    mv "$small/.ravundesk/book" "$place/book"
+    answers "$small/ravundesk" expiry
+    said 'ravundesk: the proved program expiry is built first, which can take some minutes (2 crates)' 1
+    said 'ravundesk: expiry proved in [0-9]* s; 2 of 2, 0 left' 1
+    said 'ravundesk: expiry is proved and installed, [0-9]* s' 1
+    said 'ravundesk: ' 3
+    [ "$(sed -n 1,2p "$place/out")" = '["expiry"]
+proved' ] || fail "the second program is not run"
+    [ ! -e "$small/.ravundesk/book" ] || fail "the first program is built for the second"
+    silent "$small/ravundesk" version
+    [ "$(wc -l <"$place/out")" = 4 ] || fail "version does not see the one program that is installed"
+    mv "$place/book" "$small/.ravundesk/book"
+    prints_as_first
+    silent "$small/ravundesk" version
+    [ "$(wc -l <"$place/out")" = 7 ] || fail "version does not see both programs"
+    other_crates
+    no_process_in "$small"
+}
+
+# What the first program stands on and the second does not moves the second not at all.
+other_crates() {
+    cp -a "$small/crates/second/src/lib.rt" "$place/lib.rt"
+    echo '// More.' >>"$small/crates/second/src/lib.rt"
+    answers "$small/ravundesk" expiry
+    said 'ravundesk: ' 2
+    said 'ravundesk: the command is built and installed, [0-9]* s' 1
+    cp -a "$place/lib.rt" "$small/crates/second/src/lib.rt"
+    silent "$small/ravundesk" expiry
+    prints_as_first
+}

@@ -1,4 +1,5 @@
-# A tree with the launcher of this one and little to build: three crates that prove themselves, and a command that runs their program. Sourced.
+# A tree with the launcher of this one and little to build: four crates that prove themselves, two of them programs, and a command that runs
+# those. Sourced.
 
 make_small_tree() {
     mkdir -p "$small/host"
@@ -9,8 +10,8 @@ make_small_tree() {
 }
 
 small_crates() {
-    for crate in first second book; do mkdir -p "$small/crates/$crate/src"; done
-    printf '# A small tree.\nfirst:\nsecond: first\nbook: second io libc\n' >"$small/crates.txt"
+    for crate in first second book expiry; do mkdir -p "$small/crates/$crate/src"; done
+    printf '# A small tree.\nfirst:\nsecond: first\nbook: second io libc\nexpiry: first io libc\n' >"$small/crates.txt"
     echo 'pub fn seven() -> usize { 7 }' >"$small/crates/first/src/lib.rt"
     echo 'pub fn again() -> usize { first::seven() }' >"$small/crates/second/src/lib.rt"
     cat >"$small/crates/book/src/main.rt" <<'END'
@@ -21,9 +22,11 @@ fn main() {
 }
 END
     echo proved >"$small/crates/book/stdout"
+    sed 's/second::again/first::seven/' "$small/crates/book/src/main.rt" >"$small/crates/expiry/src/main.rt"
+    echo proved >"$small/crates/expiry/stdout"
 }
 
-# The command prints its words and runs the program by the file `start`. Its build can be made to last, so that it can be stopped.
+# The command prints its words and runs each program that it is told of by the file `start`. Its build can be made to last, so that it can be stopped.
 small_command() {
     mkdir -p "$small/host/native/src" "$small/host/command/src"
     printf '[workspace]\nmembers = ["native", "command"]\nresolver = "2"\n' >"$small/host/Cargo.toml"
@@ -59,14 +62,20 @@ use std::{env, fs, process::Command};
 fn main() {
     println!("{:?}", env::args().skip(1).collect::<Vec<_>>());
     assert!(env::current_exe().unwrap().starts_with(env::var("RAVUNDESK_COMMAND").unwrap()));
-    if let Ok(folder) = env::var("RAVUNDESK_BOOK") {
-        let start = fs::read_to_string(format!("{folder}/start")).unwrap();
-        let mut words = start.lines();
-        let mut program = Command::new(words.next().unwrap());
-        program.args(words).arg(format!("{folder}/book"));
-        assert!(program.status().unwrap().success());
-        print!("{}", fs::read_to_string(format!("{folder}/built")).unwrap());
+    for (variable, name) in [("RAVUNDESK_BOOK", "book"), ("RAVUNDESK_EXPIRY", "expiry")] {
+        if let Ok(folder) = env::var(variable) {
+            run(&folder, name);
+        }
     }
+}
+
+fn run(folder: &str, name: &str) {
+    let start = fs::read_to_string(format!("{folder}/start")).unwrap();
+    let mut words = start.lines();
+    let mut program = Command::new(words.next().unwrap());
+    program.args(words).arg(format!("{folder}/{name}"));
+    assert!(program.status().unwrap().success());
+    print!("{}", fs::read_to_string(format!("{folder}/built")).unwrap());
 }
 END
 }

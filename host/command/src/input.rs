@@ -4,10 +4,12 @@ use crate::trouble::{system, Trouble};
 use std::env;
 use std::fs::File;
 use std::io::{self, ErrorKind, Read};
+use std::os::unix::io::AsFd;
+use std::process::Stdio;
 
 pub struct Input {
     pub name: String,
-    from: Box<dyn Read>,
+    from: File,
 }
 
 /// Set by the launcher where standard input is closed. This program can't see that: the system puts an empty one in its place.
@@ -23,12 +25,19 @@ impl Input {
             None | Some("-") if env::var_os(CLOSED).is_some() => {
                 Err(Trouble("standard input is closed".to_string()))
             }
-            None | Some("-") => Ok(Input {
-                name: "standard input".to_string(),
-                from: Box::new(io::stdin()),
-            }),
+            None | Some("-") => Input::standard(),
             Some(name) => Input::file(name),
         }
+    }
+
+    fn standard() -> Result<Input, Trouble> {
+        let name = "standard input".to_string();
+        let own = io::stdin().as_fd().try_clone_to_owned();
+        let own = own.map_err(|error| unread(&name, &error))?;
+        Ok(Input {
+            name,
+            from: File::from(own),
+        })
     }
 
     fn file(name: &str) -> Result<Input, Trouble> {
@@ -42,7 +51,7 @@ impl Input {
         }
         Ok(Input {
             name: name.to_string(),
-            from: Box::new(file),
+            from: file,
         })
     }
 
@@ -69,6 +78,13 @@ impl Input {
         let mut held = Vec::new();
         while held.len() < most && 0 < self.up_to(most - held.len(), &mut held)? {}
         Ok(held)
+    }
+
+    /// For a program that reads it itself.
+    pub fn handed(mut self) -> Result<Stdio, Trouble> {
+        // The program has no words for what can't be read. To read nothing takes nothing away, and fails where reading would.
+        self.up_to(0, &mut Vec::new())?;
+        Ok(self.from.into())
     }
 }
 

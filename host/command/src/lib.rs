@@ -3,12 +3,14 @@
 
 pub mod account;
 pub mod arguments;
+pub mod book;
 pub mod decimal;
 pub mod desk;
+pub mod expiry;
 pub mod feed;
 pub mod input;
 pub mod output;
-pub mod program;
+pub mod proved;
 pub mod reasons;
 pub mod records;
 pub mod refusals;

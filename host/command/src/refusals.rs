@@ -26,7 +26,7 @@ pub const REFUSALS: &[Refusal] = &[
     refusal(
         4,
         "a value outside its range or not in the tables",
-        "any with values",
+        "any with values; expiry: exercise, assign",
     ),
     refusal(5, "record out of its place", "any"),
     refusal(6, "order number not above the last accepted", "order"),
@@ -50,12 +50,19 @@ pub const REFUSALS: &[Refusal] = &[
     ),
     refusal(
         17,
-        "writing buffer shorter than the record",
-        "writing a record; in no run",
+        "lent buffer shorter than what is written",
+        "writing a record, assigning; in no run, in no line of expiry",
     ),
     refusal(18, "unused", "nothing"),
     refusal(19, "no payout waits", "pay, drop"),
     refusal(20, "a payout waits already", "withdraw"),
+    // 21 is not given to anything yet.
+    refusal(22, "long after netting below the count", "expiry: exercise"),
+    refusal(
+        23,
+        "means below what the exercise takes",
+        "expiry: exercise",
+    ),
 ];
 
 pub fn meaning(number: u8) -> &'static str {

@@ -7,9 +7,9 @@ use std::io;
 #[derive(Clone, Copy, Debug, PartialEq, Eq, PartialOrd, Ord)]
 pub enum Status {
     Accepted = 0,
-    /// Some record was refused.
+    /// Some record or question was refused.
     Refused = 1,
-    /// Wrong usage, or a file that can't be read or written.
+    /// Wrong usage, or a line or file that can't be read or written.
     Trouble = 2,
     /// The run stopped at a record that can't be read.
     Stopped = 3,

@@ -8,7 +8,7 @@ use crate::run::run;
 use crate::text::{show, write};
 use crate::trouble::{Outcome, Status, Trouble};
 use crate::version::version;
-use crate::{program, refusals};
+use crate::{book, expiry, refusals};
 
 const fn choice(name: &'static str, about: &'static str) -> Choice {
     Choice {
@@ -111,7 +111,36 @@ in fen. The first use proves and builds the program, which takes some minutes an
 needs the Rattle toolchain.",
         options: &[],
         operands: 1,
-        run: program::book,
+        run: book::book,
+    },
+    Verb {
+        name: "expiry",
+        usage: "expiry [FILE]",
+        about: "answers an expiry evening's questions, by the proved program",
+        help: "\
+FILE is text of any length, a question on a line. Without one standard input is
+read, and each question is answered as soon as its line is whole. A line that begins
+with `#` is a remark.
+
+exercise RIGHT STRIKE UNIT LONG SHORT COVERED COUNT OFFERED
+  asks whether COUNT contracts can be exercised from a position, which is netted
+  first. RIGHT is call or put, STRIKE in 0.0001 yuan, UNIT in units of the underlying,
+  LONG, SHORT, COVERED and COUNT in contracts; OFFERED is in fen for a call, in units
+  of the underlying for a put. The answer is 0 or the refusal's number:
+  `exercise call 26000 10000 5 2 0 3 7800000` is answered `0`.
+assign E SHORT COVERED ..
+  assigns E exercised contracts to up to 256 accounts, each with the short and the
+  covered contracts that it has after netting. The answer is 0 and for each account
+  the covered and the short contracts assigned to it, or the refusal's number:
+  `assign 7176 1700 0 2500 0 1900 0 1900 0` is answered
+  `0 0 1525 0 2243 0 1704 0 1704`.
+
+`unreadable N` answers line N where it is neither. `ravundesk refusals` lists the
+refusals. The first use proves and builds the program, which takes a minute or two
+and needs the Rattle toolchain.",
+        options: &[],
+        operands: 1,
+        run: expiry::expiry,
     },
     Verb {
         name: "refusals",
@@ -181,8 +210,8 @@ pub fn help_text() -> String {
 const STATUSES: &str = "\
 exit status, of every verb:
   0  all accepted
-  1  some record refused
-  2  wrong usage, or a file that can't be read or written
+  1  some record or question refused
+  2  wrong usage, or a line or file that can't be read or written
   3  the run stopped at a record that can't be read
 ";
 

@@ -2,7 +2,7 @@
 
 use crate::arguments::Asked;
 use crate::output::Output;
-use crate::program;
+use crate::proved::{BOOK, EXPIRY};
 use crate::trouble::{Outcome, Status};
 use std::path::{Path, PathBuf};
 use std::process::Command;
@@ -19,9 +19,12 @@ pub fn version(_: &Asked, output: &mut Output) -> Outcome {
         "ravundesk",
         "it was not started by ./ravundesk",
     ))?;
-    output.line("\nbook: the proved program")?;
-    let not_yet = "it is not installed; ./ravundesk book proves and installs it";
-    output.put(described(program::INSTALLED, "book", not_yet))?;
+    for program in [BOOK, EXPIRY] {
+        let name = program.name;
+        output.line(&format!("\n{name}: the proved program"))?;
+        let not_yet = format!("it is not installed; ./ravundesk {name} proves and installs it");
+        output.put(described(program.variable, name, &not_yet))?;
+    }
     Ok(Status::Accepted)
 }
 

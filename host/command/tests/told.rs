@@ -45,7 +45,7 @@ fn every_refusal() {
         .filter(|path| path.extension().map_or(false, |ending| ending == "out"))
         .map(|path| fs::read_to_string(path).expect("stored lines"))
         .collect();
-    let in_no_run = [17, 18];
+    let in_no_run = [17, 18, 22, 23];
     for refusal in ravundesk::refusals::REFUSALS {
         let word = if refusal.number < 4 {
             "STOPPED"
