@@ -8,6 +8,7 @@ use lib.ListN.{length, length-map, replicate}
 use Rattle.terms.specs.declared.count.Position.{Position}
 use Rattle.terms.specs.declared.kind.OrderKind.the-variants.{BuyOpen}
 use Rattle.rules.specs.Netting.{netted}
+use Rattle.terms.proofs.Listed.{listed-is}
 use Rattle.account.specs.DayEnd.{keptAnew, ordersCancelled, positionsNetted, marginAfresh, premiumJoined, dailyZero, unitsReleased, dayEnded}
 use Rattle.account.specs.Money.{marginIn}
 use Rattle.account.specs.Rows.{free, noHolding, noPosition}
@@ -24,7 +25,6 @@ use Rattle.postings.specs.Postings.{posted}
 use Rattle.postings.specs.declared.Posting.the-variants.{DayEnd}
 use Rattle.day_end.specs.Passes.{Summed, ofUnits, countTo, marginTo, unitsTo, heldTo, holdingsTo, runningTo, workedTo}
 use Rattle.day_end.specs.declared.after.Worked.{Worked}
-use Rattle.day_end.proofs.Listing.{listed-is}
 use Rattle.day_end.proofs.Summed.{positions-summed}
 use Rattle.day_end.proofs.after.account_after.Statement.{statement}
 use Rattle.day_end.proofs.after.account_after.Tie as tie
