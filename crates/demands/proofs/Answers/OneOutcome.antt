@@ -4,6 +4,11 @@ use denote.Ref.{now}
 use Rattle.rules.proofs.margin.Reads as margin
 use Rattle.rules.proofs.premium.Reads as premium
 use Rattle.rules.proofs.net.Reads as net
+use Rattle.terms.specs.declared.verdict.Verdict.{Verdict}
+use Rattle.exercise.proofs.exercise.Reads as exercise
+use Rattle.assignment.specs.Assignment.{assigned}
+use Rattle.assignment.specs.Lent.{coveredShares, lentAfter, uncoveredShares}
+use Rattle.assignment.proofs.assign.Reads as assign
 use Rattle.reading.proofs.read.Reads as read
 use Rattle.reader.proofs.read_next.Reads as read-next
 use Rattle.writing.specs.Writing.{recordOf, bufferAfter}
@@ -50,6 +55,20 @@ premium-one κs a r r' s s' p q = p ∙ sym q
 
 pub net-one : (κs : _) (a : _) (r r' : _) (s s' : _) → net.Post κs a r s → net.Post κs a r' s' → r ≡ r'
 net-one κs a r r' s s' p q = p ∙ sym q
+
+pub exercise-one : (κs : _) (a : _) (r r' : _) (s s' : _) → exercise.Post κs a r s → exercise.Post κs a r' s' → r ≡ r'
+exercise-one κs a r r' s s' p q = p ∙ sym q
+
+-- both lent lists have one final contents
+pub assign-one : (κs : _) (a : _) (r r' : _) (s s' : _) → assign.Post κs a r s → assign.Post κs a r' s'
+    → (r ≡ r') × (now (s .1 .1 .1 .0) ≡ now (s' .1 .1 .1 .0)) × (now (s .1 .1 .1 .1 .0) ≡ now (s' .1 .1 .1 .1 .0))
+assign-one κs a r r' s s' p q =
+    let same = p .0 ∙ sym (q .0) in
+    let shares = assigned (a .0 .0) (now (a .1 .0)) (now (a .1 .1 .0)) in (
+      same,
+      p .1 .0 ∙ ap (λ (v : Verdict). lentAfter v (coveredShares (now (a .1 .1 .0)) shares) (now (a .1 .1 .1 .0))) same ∙ sym (q .1 .0),
+      p .1 .1 ∙ ap (λ (v : Verdict). lentAfter v (uncoveredShares (now (a .1 .1 .0)) shares) (now (a .1 .1 .1 .1 .0))) same ∙ sym (q .1 .1),
+    )
 
 pub read-one : (κs : _) (a : _) (r r' : _) (s s' : _) → read.Post κs a r s → read.Post κs a r' s' → r ≡ r'
 read-one κs a r r' s s' p q = p ∙ sym q

@@ -119,6 +119,10 @@ module _ (E : ℕ) (short covered cover naked lent lent' : List ℕ) (ok : Allow
         as-stated = subst (Stated E short covered) (sym the-shares) stated;
       }
 
+behind : (n : ℕ) (after contracts lent : List ℕ) → length contracts ≡ n → after ≡ contracts ++ drop (length contracts) lent → drop n after ≡ drop n lent
+behind n after contracts lent sized e =
+    ap (drop n) e ∙ drop-at contracts (drop (length contracts) lent) n sized ∙ ap (λ (k : ℕ). drop k lent) sized
+
 module _ (κs : _) (a : _) (r : _) (s : _) (p : assign.Post κs a r s) (accepted : r ≡ Accepted) where
   it-may : Allowed (a .0 .0) (now (a .1 .0)) (now (a .1 .1 .0))
   it-may = accepted-allowed _ _ _ _ _ (sym (p .0) ∙ accepted)
@@ -135,7 +139,11 @@ module _ (κs : _) (a : _) (r : _) (s : _) (p : assign.Post κs a r s) (accepted
 
   -- the places behind the accounts are left alone
   pub assign-rest : (drop (length (now (a .1 .0))) (now (s .1 .1 .1 .0)) ≡ drop (length (now (a .1 .0))) (now (a .1 .1 .1 .0))) × (drop (length (now (a .1 .0))) (now (s .1 .1 .1 .1 .0)) ≡ drop (length (now (a .1 .0))) (now (a .1 .1 .1 .1 .0)))
-  assign-rest = ?
+  assign-rest =
+      let both = it-may .both in (
+        behind _ _ _ _ (covered-sized _ _ ∙ sym both) (p .1 .0 ∙ ap (λ (v : Verdict). lentAfter v _ _) accepted),
+        behind _ _ _ _ (uncovered-sized _ _ ∙ sym both) (p .1 .1 ∙ ap (λ (v : Verdict). lentAfter v _ _) accepted),
+      )
 
   -- "T zero with E zero assigns nothing"
   pub nothing-assigned : allTotals (now (a .1 .0)) (now (a .1 .1 .0)) ≡ 0 → (i : ℕ) → i < length (now (a .1 .0)) → shareIn (now (s .1 .1 .1 .0)) (now (s .1 .1 .1 .1 .0)) i ≡ 0
