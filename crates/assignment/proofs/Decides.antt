@@ -7,7 +7,6 @@ use native.Mathlib.Decide.{decLt}
 use native.Mathlib.Omega.{arith}
 use lib.ListN.{length, getD}
 use lib.Seq.{ext-getD}
-use Rattle.terms.specs.Sums.{Σ}
 use Rattle.terms.proofs.Sums.{Σ-more}
 use Rattle.assignment.specs.Assignment.{fraction, wholePart}
 use Rattle.assignment.specs.Stated.{Before, Stated}
@@ -37,7 +36,7 @@ module _ (E : ℕ) (short covered : List ℕ) where
       nobody-less : (j : ℕ) → j < length short → getD other j 0 ≤ getD one j 0
       nobody-less j h = elim (decLt (getD one j 0) (getD other j 0)) [ yes less ↦ absurd (none-instead j h less) | no not-less ↦ omega (arith, not-less) ]
 
-      pub not-both : ⊥
+      not-both : ⊥
       not-both =
           let more = Σ-more (length short) i (λ j. getD other j 0) (λ j. getD one j 0) there nobody-less (omega (arith, served, waits)) in
           omega (arith, more, first .adds-up, second .adds-up)

@@ -1,8 +1,8 @@
 -- Whole parts and fractions are E x s divided by T, with rest. All of them together are E x T divided so: the whole parts add up to at most E, and the fractions to as many times T as contracts are left. A whole part is at most s, since E is at most T, and below it where there is a fraction.
-use mathlib.Core.Path.{_≡_, refl, sym, ap, _∙_}
+use mathlib.Core.Path.{_≡_, refl, ap, _∙_}
 use mathlib.Core.Bool.{true, _&&_}
 use mathlib.Core.List.{List}
-use Prim.Native.Nat.{ℕ, zero, suc, _+_, _-_, _*_, _/_, _%_, _≤_, _<_}
+use Prim.Native.Nat.{ℕ, zero, suc, _+_, _*_, _/_, _≤_, _<_}
 use native.Mathlib.Nat.{add-mul, mul-add, mul-comm, mul-le-mul-right, div-add-mod', div-zero, div-le-of-le-mul, mod-lt, le-of-mul-le-mul-right, lt-of-mul-lt-mul-left}
 use native.Mathlib.Omega.{arith}
 use borrow.Author.Tests.{leb-true, eqb-true}
@@ -14,7 +14,7 @@ use Rattle.terms.specs.Sums.{Σ}
 use Rattle.terms.specs.declared.measure.Measure.the-variants.{Accounts, NetTotal}
 use Rattle.terms.proofs.Listed.{each-passes}
 use Rattle.terms.proofs.Ranges.{first-holds, second-holds, inside}
-use Rattle.terms.proofs.Sums.{Σ-none, Σ-part}
+use Rattle.terms.proofs.Sums.{Σ-none}
 use Rattle.assignment.specs.Assignment.{netTotal, allTotals, accountsAllowed, assignAllowed, wholePart, fraction, leftover}
 
 -- what is known where E may be assigned
@@ -54,7 +54,7 @@ module _ (E : ℕ) (short covered : List ℕ) where
   abbrev rest : ℕ → ℕ
   rest = fraction E short covered
 
-  pub divided : (i : ℕ) → whole i * T + rest i ≡ E * s i
+  divided : (i : ℕ) → whole i * T + rest i ≡ E * s i
   unfolding wholePart fraction
   divided i = div-add-mod' (E * s i) T
 

@@ -1,6 +1,6 @@
 -- What an assignment is answered with, and what stands in the lent lists afterwards.
 use Prim.Native.Nat.{ℕ}
-use mathlib.Core.Bool.{Bool, cond, _&&_}
+use mathlib.Core.Bool.{cond, _&&_}
 use mathlib.Core.List.{List, _++_}
 use lib.Dec.{leb}
 use lib.ListN.{length, getD, drop}
@@ -9,7 +9,7 @@ use Rattle.terms.specs.Verdicts.{_else_then_}
 use Rattle.terms.specs.declared.refusal.Refusal.the-variants.{OutOfRange, BufferTooShort}
 use Rattle.terms.specs.declared.verdict.Verdict.{Verdict}
 use Rattle.terms.specs.declared.verdict.Verdict.the-variants.{Accepted, Refused}
-use Rattle.assignment.specs.Assignment.{allTotals, accountsAllowed, assignAllowed, assigned, coveredFirst, uncoveredThen}
+use Rattle.assignment.specs.Assignment.{allTotals, accountsAllowed, assignAllowed, coveredFirst, uncoveredThen}
 use Rattle.assignment.specs.declared.Total.{Total}
 use Rattle.assignment.specs.declared.Total.the-variants.{Of, NotAllowed}
 

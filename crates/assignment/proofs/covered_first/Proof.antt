@@ -1,5 +1,5 @@
 -- `covered_first` meets its contract. The invariant: of the accounts so far the covered contracts are taken out, and the others have their whole shares still.
-use Prim.Native.Nat.{ℕ, _+_, _-_, _≤_, _<_}
+use Prim.Native.Nat.{ℕ, _-_, _≤_}
 use mathlib.Core.Path.{_≡_, refl, ap, _∙_}
 use native.Mathlib.Omega.{arith}
 use borrow.Author.Needs.{needs}

@@ -9,7 +9,6 @@ use lib.Dec.{leb}
 use lib.ListN.{drop, getD, length, List·getD-append}
 use lib.Seq.{drop-at}
 use Rattle.terms.specs.Listed.{listed}
-use Rattle.terms.specs.Sums.{Σ}
 use Rattle.terms.specs.Verdicts.{numberIn, _else_then_}
 use Rattle.terms.specs.declared.refusal.Refusal.the-variants.{BufferTooShort, OutOfRange}
 use Rattle.terms.specs.declared.verdict.Verdict.{Verdict}

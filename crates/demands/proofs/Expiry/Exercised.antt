@@ -1,7 +1,6 @@
 -- A request for exercise gets an answer, by number, and is accepted just where it is good: the contract gives the verdict, and the laws of the verdict say the rest.
 use mathlib.Core.List.{[], _∷_}
 use mathlib.Core.Path.{_≡_, refl, sym, ap, subst, _∙_}
-use Prim.Native.Nat.{ℕ}
 use Rattle.terms.specs.Verdicts.{numberIn}
 use Rattle.terms.specs.declared.verdict.Verdict.the-variants.{Accepted}
 use Rattle.exercise.specs.Exercise.{Good}

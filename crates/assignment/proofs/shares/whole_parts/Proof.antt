@@ -1,6 +1,6 @@
 -- `whole_parts` meets its contract. The invariant: the accounts so far have their whole parts and fractions, and what is left is E less those whole parts.
 use Prim.Native.Nat.{ℕ, _+_, _-_, _*_, _/_, _%_, _≤_, _<_}
-use mathlib.Core.Path.{_≡_, refl, ap, subst, _∙_}
+use mathlib.Core.Path.{_≡_, refl, ap, _∙_}
 use mathlib.Core.List.{List}
 use native.Mathlib.Numerals.{add-one}
 use native.Mathlib.Omega.{arith}
@@ -8,7 +8,7 @@ use borrow.Author.Needs.{needs}
 use lib.ListN.{length, getD, length-set}
 use Rattle.terms.specs.Sums.{Σ}
 use Rattle.terms.proofs.Sums.{Σ-part}
-use Rattle.assignment.specs.Assignment.{allTotals, fraction, leftover, netTotal, wholePart}
+use Rattle.assignment.specs.Assignment.{fraction, leftover, netTotal, wholePart}
 use Rattle.assignment.specs.Steps.{Assignable}
 use Rattle.assignment.proofs.Divided.{Allowed, allowed, wholes-within}
 use Rattle.assignment.proofs.Filled.{FilledTo, none-filled, one-filled, all-filled}
