@@ -1,5 +1,6 @@
 //! Books: telling ones by their lines, random ones by what they reach, the examples by their files, and the trial of a program itself.
 
+use plain::expiry_lines;
 use plain::program::{printed, MOST_READ};
 use plain::worked;
 use std::collections::BTreeSet;
@@ -66,14 +67,18 @@ fn the_gate_has_the_worked_book() {
 fn examples_are_as_told() {
     let page = String::from_utf8(example("README.md")).unwrap();
     let sections: Vec<&str> = page.split("\n## ").skip(1).collect();
-    assert_eq!(sections.len(), 3);
+    assert_eq!(sections.len(), 4);
     for section in sections {
         let (name, table) = section.split_once('\n').unwrap();
         let rows = table.lines().filter_map(|row| row.strip_suffix("` |"));
         let lines: String = rows
             .map(|row| format!("{}\n", row.rsplit('`').next().unwrap()))
             .collect();
-        assert_eq!(printed(&example(name)), lines, "{name}");
+        let answered = match name {
+            "expiry.txt" => expiry_lines::printed,
+            _ => printed,
+        };
+        assert_eq!(answered(&example(name)), lines, "{name}");
     }
 }
 
