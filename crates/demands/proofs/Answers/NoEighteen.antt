@@ -8,6 +8,8 @@ use lib.ListN.{take}
 use Rattle.rules.specs.Charges as charges
 use Rattle.rules.proofs.margin.Reads as margin
 use Rattle.rules.proofs.premium.Reads as premium
+use Rattle.exercise.proofs.exercise.Reads as exercise
+use Rattle.assignment.proofs.assign.Reads as assign
 use Rattle.entries.specs.Entries.{noFigures}
 use Rattle.entries.specs.declared.entry.Entry.the-variants.{Fill}
 use Rattle.entries.specs.declared.entry.Fill as Given
@@ -38,6 +40,8 @@ use Rattle.demands.proofs.Answers.Lent.{NextSays}
 use Rattle.demands.proofs.Answers.PaperNumbers.{first-among}
 use Rattle.demands.proofs.Answers.RunsTold.{run-numbers}
 use Rattle.demands.proofs.Entries.WithEighteen.{book-same, fill-same}
+use Rattle.demands.proofs.Expiry.Assigned.{assign-numbers}
+use Rattle.demands.proofs.Expiry.Exercised.{exercise-numbers}
 
 module _ (numbers : List ℕ) (unused : member 18 numbers ≡ false) where
   not-18 : {n : ℕ} → OneOf numbers n → Not18 n
@@ -64,6 +68,12 @@ read-next-not-18 κs a r s p = not-18 (0 ∷ 1 ∷ 2 ∷ 3 ∷ []) refl (read-ne
 
 pub write-not-18 : (κs : _) (a : _) (r : _) (s : _) → write.Post κs a r s → Not18 (writing.numberIn r)
 write-not-18 κs a r s p = not-18 (0 ∷ 3 ∷ 17 ∷ []) refl (write-numbers κs a r s p)
+
+pub exercise-not-18 : (κs : _) (a : _) (r : _) (s : _) → exercise.Post κs a r s → Not18 (numberIn r)
+exercise-not-18 κs a r s p = not-18 (0 ∷ 4 ∷ 22 ∷ 23 ∷ []) refl (exercise-numbers κs a r s p)
+
+pub assign-not-18 : (κs : _) (a : _) (r : _) (s : _) → assign.Post κs a r s → Not18 (numberIn r)
+assign-not-18 κs a r s p = not-18 (0 ∷ 4 ∷ 17 ∷ []) refl (assign-numbers κs a r s p)
 
 pub list-verdict-not-18 : (κs : _) (a : _) (r : _) (s : _) → run-list.Post κs a r s → Not18 (numberIn (r .verdict))
 list-verdict-not-18 κs a r s p = not-18 (0 ∷ 4 ∷ 5 ∷ []) refl (list-verdict-numbers κs a r s p)
