@@ -11,8 +11,8 @@ use Rattle.terms.specs.declared.refusal.Refusal.the-variants.{OutOfRange, Buffe
 use Rattle.terms.specs.declared.verdict.Verdict.the-variants.{Accepted, Refused}
 use Rattle.terms.proofs.Ranges.{second-fails}
 use Rattle.assignment.specs.Assignment.{accountsAllowed, allTotals, assignAllowed}
-use Rattle.assignment.specs.Lent.{assignVerdict, totalled}
-use Rattle.assignment.specs.Steps.{Assignable}
+use Rattle.assignment.specs.Lent.{assignVerdict}
+use Rattle.assignment.specs.Steps.{Assignable, totalled}
 use Rattle.assignment.specs.declared.Total.the-variants.{Of, NotAllowed}
 
 module _ (E : ℕ) (short covered : List ℕ) (places places' : ℕ) where

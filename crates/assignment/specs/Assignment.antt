@@ -17,7 +17,7 @@ netTotal short covered i = getD short i 0 + getD covered i 0
 unfoldable pub allTotals : List ℕ → List ℕ → ℕ
 allTotals short covered = Σ (length short) (netTotal short covered)
 
--- up to 256 accounts, each with both counts, and no s above 10,000 (#105)
+-- up to 256 accounts, and no s above 10,000 (#105); each has both its counts (house)
 unfoldable pub accountsAllowed : List ℕ → List ℕ → Bool
 accountsAllowed short covered =
     eqb (length short) (length covered) && (length short ∈ rangeOf Accounts) && every (length short) (λ i. netTotal short covered i ∈ rangeOf NetTotal)

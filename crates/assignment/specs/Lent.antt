@@ -1,6 +1,6 @@
 -- What an assignment is answered with, and what stands in the lent lists afterwards.
 use Prim.Native.Nat.{ℕ}
-use mathlib.Core.Bool.{cond, _&&_}
+use mathlib.Core.Bool.{_&&_}
 use mathlib.Core.List.{List, _++_}
 use lib.Dec.{leb}
 use lib.ListN.{length, getD, drop}
@@ -9,9 +9,7 @@ use Rattle.terms.specs.Verdicts.{_else_then_}
 use Rattle.terms.specs.declared.refusal.Refusal.the-variants.{OutOfRange, BufferTooShort}
 use Rattle.terms.specs.declared.verdict.Verdict.{Verdict}
 use Rattle.terms.specs.declared.verdict.Verdict.the-variants.{Accepted, Refused}
-use Rattle.assignment.specs.Assignment.{allTotals, accountsAllowed, assignAllowed, coveredFirst, uncoveredThen}
-use Rattle.assignment.specs.declared.Total.{Total}
-use Rattle.assignment.specs.declared.Total.the-variants.{Of, NotAllowed}
+use Rattle.assignment.specs.Assignment.{assignAllowed, coveredFirst, uncoveredThen}
 
 -- "first 4"; then 17 where a lent list has fewer places than there are accounts (house)
 unfoldable pub assignVerdict : ℕ → List ℕ → List ℕ → ℕ → ℕ → Verdict
@@ -31,7 +29,3 @@ uncoveredShares covered shares = listed (length covered) (λ i. uncoveredThen (g
 abbrev pub lentAfter : Verdict → List ℕ → List ℕ → List ℕ
 lentAfter Accepted contracts lent = contracts ++ drop (length contracts) lent
 lentAfter (Refused why) contracts lent = lent
-
--- what the code finds of the accounts: T, or that they are not allowed (house)
-unfoldable pub totalled : List ℕ → List ℕ → Total
-totalled short covered = cond (accountsAllowed short covered) (Of (allTotals short covered)) NotAllowed

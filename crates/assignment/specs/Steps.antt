@@ -1,10 +1,16 @@
--- What the steps of an assignment may rest on, since the accounts were found allowed before.
+-- What the steps of an assignment find, and what the later ones may rest on.
 use Prim.Native.Nat.{ℕ, _+_, _^_, _<_}
 use mathlib.Core.Path.{_≡_}
-use mathlib.Core.Bool.{true}
+use mathlib.Core.Bool.{true, cond}
 use mathlib.Core.List.{List}
 use lib.ListN.{length, getD}
-use Rattle.assignment.specs.Assignment.{allTotals, assignAllowed}
+use Rattle.assignment.specs.Assignment.{accountsAllowed, allTotals, assignAllowed}
+use Rattle.assignment.specs.declared.Total.{Total}
+use Rattle.assignment.specs.declared.Total.the-variants.{Of, NotAllowed}
+
+-- of the accounts: T, or that they are not allowed
+unfoldable pub totalled : List ℕ → List ℕ → Total
+totalled short covered = cond (accountsAllowed short covered) (Of (allTotals short covered)) NotAllowed
 
 -- a list with a place for each account
 abbrev pub Rows : List ℕ → List ℕ → Type 0

@@ -11,8 +11,8 @@ use terms::Verdict;
 ghost use mathlib.Core.Path.{_≡_};
 ghost use lib.ListN.{length};
 ghost use Rattle.assignment.specs.Assignment.{assigned};
-ghost use Rattle.assignment.specs.Lent.{assignVerdict, coveredShares, lentAfter, totalled, uncoveredShares};
-ghost use Rattle.assignment.specs.Steps.{Assignable, Rows};
+ghost use Rattle.assignment.specs.Lent.{assignVerdict, coveredShares, lentAfter, uncoveredShares};
+ghost use Rattle.assignment.specs.Steps.{Assignable, Rows, totalled};
 
 // What all net totals add up to, where each account may be assigned to.
 enum Total {

@@ -16,7 +16,7 @@ use Rattle.terms.specs.declared.measure.Measure.the-variants.{Accounts, NetTota
 use Rattle.terms.proofs.Listed.{all-passed, one-fails, one-more}
 use Rattle.terms.proofs.Ranges.{inside, within, second-fails}
 use Rattle.assignment.specs.Assignment.{accountsAllowed, allTotals, netTotal}
-use Rattle.assignment.specs.Lent.{totalled}
+use Rattle.assignment.specs.Steps.{totalled}
 use Rattle.assignment.specs.declared.Total.the-variants.{Of, NotAllowed}
 use Rattle.assignment.proofs.all_totals.Statement.{statement}
 use Rattle.assignment.proofs.all_totals.Tie as tie

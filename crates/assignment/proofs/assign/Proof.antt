@@ -4,7 +4,7 @@ use mathlib.Core.List.{List, _++_}
 use Prim.Native.Nat.{ℕ}
 use lib.ListN.{length, drop}
 use lib.Seq.{length-take-le}
-use Rattle.assignment.specs.Lent.{totalled}
+use Rattle.assignment.specs.Steps.{totalled}
 use Rattle.assignment.specs.declared.Total.the-variants.{Of}
 use Rattle.assignment.proofs.Divided.{allowed}
 use Rattle.assignment.proofs.Filled.{covered-sized, uncovered-sized}
