@@ -3,8 +3,5 @@
 # places for 128 answers), 16 for what runs on a book, a day end with all 64 contracts too, and 16 for the loader and for where the system
 # lets a stack begin (docs/STACK.md).
 set -eu
-cd "$(dirname "$0")/.."
-[ -x target/bin/book ] || rt check book
-sh tests/cargo.sh build
 export STACK_KIB=102
-exec host/target/release/books "$1" "$2" sh tests/program.sh book
+exec sh "$(dirname "$0")/trial.sh" books book "$1" "$2"

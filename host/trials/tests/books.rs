@@ -1,11 +1,13 @@
 //! Books: telling ones by their lines, random ones by what they reach, the examples by their files, and the trial of a program itself.
 
+mod common;
+
 use plain::expiry_lines;
 use plain::program::{printed, MOST_READ};
 use plain::worked;
 use std::collections::BTreeSet;
 use std::fs;
-use std::process::{Command, Output};
+use std::process::Output;
 use trials::{booking, examples, telling};
 
 #[test]
@@ -82,15 +84,12 @@ fn examples_are_as_told() {
     }
 }
 
-/// A program made of `plain`, and a command that its lines go through.
 fn trial(count: &str, through: &str) -> Output {
-    let program = format!("\"$0\" | {through}");
-    let shell = ["sh", "-c", &program, env!("CARGO_BIN_EXE_plain_book")];
-    Command::new(env!("CARGO_BIN_EXE_books"))
-        .args([count, "1"])
-        .args(shell)
-        .output()
-        .unwrap()
+    let [trial, program] = [
+        env!("CARGO_BIN_EXE_books"),
+        env!("CARGO_BIN_EXE_plain_book"),
+    ];
+    common::trial(trial, program, count, through)
 }
 
 #[test]

@@ -1,10 +1,12 @@
 //! Random questions of an expiry day: `plain` held to what is stated, what the questions reach, and the trial of a program itself.
 
+mod common;
+
 use plain::expiry::Obligation;
 use plain::expiry_lines::{printed, Question};
 use plain::terms::Right;
 use std::fs;
-use std::process::{Command, Output};
+use std::process::Output;
 use trials::expiring::{batch, Meant};
 use trials::reached::Reached;
 use trials::stated::{exercise_verdict, Assignment};
@@ -127,15 +129,12 @@ fn a_batch_can_be_made_again() {
     assert_ne!(batch(7, 3, 250).input, batch(7, 4, 250).input);
 }
 
-/// A program made of `plain`, and a command that its lines go through.
 fn trial(count: &str, through: &str) -> Output {
-    let program = format!("\"$0\" | {through}");
-    let shell = ["sh", "-c", &program, env!("CARGO_BIN_EXE_plain_expiry")];
-    Command::new(env!("CARGO_BIN_EXE_expiry"))
-        .args([count, "1"])
-        .args(shell)
-        .output()
-        .unwrap()
+    let [trial, program] = [
+        env!("CARGO_BIN_EXE_expiry"),
+        env!("CARGO_BIN_EXE_plain_expiry"),
+    ];
+    common::trial(trial, program, count, through)
 }
 
 #[test]
