@@ -1,11 +1,12 @@
-//! Writes the crates' source as Rust: `desk`, `writing` and each crate that they stand on become a module, its files the module's files.
+//! Writes the crates' source as Rust: those whose functions are run, and each crate that they stand on, become a module, its files the
+//! module's files.
 
 use std::collections::BTreeMap;
 use std::path::{Path, PathBuf};
 use std::{env, fs};
 
 /// The crates whose public functions are run; all others are found from their lines in crates.txt.
-const TOPS: [&str; 2] = ["desk", "writing"];
+const TOPS: &[&str] = &["desk", "writing", "exercise", "assignment"];
 
 fn main() {
     let variable = |name| PathBuf::from(env::var(name).expect("cargo sets it"));
@@ -40,8 +41,8 @@ fn dependencies(list: &str) -> BTreeMap<String, Vec<String>> {
         .collect()
 }
 
-fn closure(lines: &BTreeMap<String, Vec<String>>, tops: [&str; 2]) -> Vec<String> {
-    let mut found = tops.map(String::from).to_vec();
+fn closure(lines: &BTreeMap<String, Vec<String>>, tops: &[&str]) -> Vec<String> {
+    let mut found: Vec<String> = tops.iter().copied().map(String::from).collect();
     let mut next = 0;
     while next < found.len() {
         for name in &lines[&found[next]] {
