@@ -15,7 +15,7 @@ use terms::{Contracts, Position, Units};
 pub const ALL_FREE: u32 = 4_294_967_295;
 
 // The money sheet, in fen. Covered premium is what was received today for covered opening.
-#[derive(Drop)]
+#[derive(Clone, Copy)]
 pub struct Sheet {
     pub cash: u64,
     pub premium: u64,
@@ -24,7 +24,7 @@ pub struct Sheet {
 }
 
 // An order that rests, or a free place. The kind is the paper's number, 1 to 6, so that a free place can be all zero.
-#[derive(Drop)]
+#[derive(Clone, Copy)]
 pub struct Resting {
     pub number: u32,
     pub contract: u16,
@@ -48,7 +48,7 @@ impl Resting {
 }
 
 // What stands for one underlying: its locked units, and how many contracts were bought open today.
-#[derive(Drop)]
+#[derive(Clone, Copy)]
 pub struct Holding {
     pub locked: Units,
     pub bought: Contracts,
@@ -57,7 +57,7 @@ pub struct Holding {
 // One request for a payout may wait; 0 where none does, since an amount that is asked for is at least 1. Running totals of each underlying,
 // resting closes on each contract, by the count that they close, and the free places, a binary digit for each, are kept as we go: they
 // could be summed from positions and orders, which is what they are proved to be.
-#[derive(Drop)]
+#[derive(Clone, Copy)]
 pub struct Account {
     pub sheet: Sheet,
     pub waiting: u64,

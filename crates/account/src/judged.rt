@@ -10,7 +10,7 @@ use terms::{Contracts, Position, Refusal, Units, Verdict};
 
 // What an entry is judged by, read off tables and account where it names them: how many underlyings and contracts there are, the money, the
 // numbers, and the rows of one place, one contract and one underlying. Where it names none, the first row stands there and is not asked.
-#[derive(Drop)]
+#[derive(Clone, Copy)]
 pub struct Seen {
     pub n: usize,
     pub m: usize,
@@ -30,7 +30,7 @@ pub struct Seen {
 
 // The facts of an order; of one whose values are not allowed nothing else is known. Position is the count that the order moves and
 // closing what rests of closes of that count on its contract; rights and total are what counts against those limits already.
-#[derive(Drop)]
+#[derive(Clone, Copy)]
 pub struct Facts {
     pub allowed: bool,
     pub last: u32,
@@ -52,7 +52,7 @@ pub struct Facts {
 
 // The facts of a fill and of a cancel: the order that the number names, at its place, with what one contract of it holds and what
 // one contract's margin is. Where no order has the number, the place is past the last and the order is a free one.
-#[derive(Drop)]
+#[derive(Clone, Copy)]
 pub struct Named {
     pub place: usize,
     pub order: Resting,
@@ -67,7 +67,7 @@ pub struct Named {
 }
 
 // What becomes of the payout that waits: it stays as it is, or so much waits from now on, 0 where nothing does any more.
-#[derive(Drop)]
+#[derive(Clone, Copy)]
 pub enum Waiting {
     Stays,
     Becomes(u64),
@@ -87,7 +87,7 @@ impl Waiting {
 // What an accepted entry leaves: the sheet, what waits, one contract's position, one place's order, one underlying's holding, and the last
 // accepted number. A contract, a place or an underlying past the last one names none, and then nothing of its sort changes. Position and
 // order are on one contract of that underlying, of so many units.
-#[derive(Drop)]
+#[derive(Clone, Copy)]
 pub struct Change {
     pub sheet: Sheet,
     pub waiting: Waiting,
@@ -155,7 +155,7 @@ impl Change {
 }
 
 // What is decided about an entry: why it is refused, what it changes, or that the day ends, which goes through all rows.
-#[derive(Drop)]
+#[derive(Clone, Copy)]
 pub enum Decision {
     Refused(Refusal),
     Changes(Change),
@@ -175,7 +175,7 @@ impl Decision {
 }
 
 // What an entry leads to: the verdict, and tables and account after it.
-#[derive(Drop)]
+#[derive(Clone, Copy)]
 pub struct Outcome {
     pub verdict: Verdict,
     pub tables: Tables,

@@ -11,7 +11,7 @@ use terms::{Contracts, Position, Units};
 
 // Of one underlying: contracts long, all that counts against the total limit, what is left of resting buy opens and of all resting opens, and
 // the units that cover or are reserved.
-#[derive(Drop)]
+#[derive(Clone, Copy)]
 pub struct Running {
     pub long: Contracts,
     pub total: Contracts,

@@ -1,4 +1,5 @@
 // The desk for programs in other languages: running a book, under a name that the static library gives it.
+#![tactic(auto)]
 ghost use Rattle.std.specs.Prelude.{◌≡◌, length};
 ghost use Rattle.desk.specs.Runs.{book_run, numbers_left, places_in, sums_left};
 

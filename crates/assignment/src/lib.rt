@@ -1,4 +1,5 @@
 // Assignment on the expiry evening: exercised contracts go to the accounts that are short or covered.
+#![tactic(auto)]
 mod shares;
 
 ghost use Rattle.std.specs.Prelude.{◌≡◌, length};
@@ -11,7 +12,7 @@ use shares::share_out;
 use terms::{ACCOUNTS, Contracts, Measure, Refusal, Verdict};
 
 // What all net totals add up to, where each account may be assigned to.
-#[derive(Drop)]
+#[derive(Clone, Copy)]
 enum Total {
     Of(u32),
     NotAllowed,

@@ -5,7 +5,7 @@ ghost use Rattle.assignment.specs.Assignment.{assigned, fraction, hand_out, larg
 ghost use Rattle.assignment.specs.Steps.{Assignable, Handable, Rows};
 
 // An account's share: its whole part, and what is left over, in parts of the total.
-#[derive(Drop)]
+#[derive(Clone, Copy)]
 struct Share {
     whole: u32,
     over: u32,

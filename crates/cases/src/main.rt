@@ -1,4 +1,5 @@
 // Runs the examples of standard input, a line each, through the compiled functions, and writes each line again with '=' and what came out.
+#![tactic(auto)]
 mod asked;
 mod charges;
 mod found;

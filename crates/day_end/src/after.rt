@@ -12,7 +12,7 @@ use rules::net;
 use terms::{Contracts, Position, Units};
 
 // What a pass over the contracts works out, at the figures of the tables.
-#[derive(Drop)]
+#[derive(Clone, Copy)]
 struct Worked {
     margin: u64,
     holdings: [Holding; terms::UNDERLYINGS],

@@ -1,4 +1,5 @@
 // The day end: refused whole with 4, or figures installed and the account ended on them.
+#![tactic(auto)]
 mod after;
 mod figures;
 

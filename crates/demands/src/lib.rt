@@ -1,1 +1,2 @@
 // No code: what is promised of the crates below stands in proofs/, as theorems.
+#![tactic(auto)]

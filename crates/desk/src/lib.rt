@@ -1,4 +1,5 @@
 // The desk: a list and a book, run from their bytes, the answers written into places that the caller lends.
+#![tactic(auto)]
 mod available;
 
 ghost use Rattle.std.specs.Prelude.{◌≡◌};
@@ -18,7 +19,7 @@ use terms::Verdict;
 // What a run leads to. The verdict is that on what it starts from: a list's tables or cash may be refused, and then no record is
 // answered. `place` is that of the next record, or of the one that could not be read, with which the run `stopped`; one that only ran
 // out of places goes on from there with `run_on`.
-#[derive(Drop)]
+#[derive(Clone, Copy)]
 pub struct Run {
     pub verdict: Verdict,
     pub answered: usize,

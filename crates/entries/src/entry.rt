@@ -7,7 +7,7 @@ use crate::kind::Kind;
 use terms::{Class, OrderKind, Right};
 
 // An entry carries its case. A withdrawal is asked for, and then paid or dropped. A day end's figures stand beside it, in `Figures`.
-#[derive(Drop)]
+#[derive(Clone, Copy)]
 pub enum Entry {
     Deposit(u64),
     Withdraw(u64),
@@ -133,7 +133,7 @@ impl Entry {
     }
 }
 
-#[derive(Drop)]
+#[derive(Clone, Copy)]
 pub struct Order {
     pub number: u32,
     pub contract: u16,
@@ -142,14 +142,14 @@ pub struct Order {
     pub price: u32,
 }
 
-#[derive(Drop)]
+#[derive(Clone, Copy)]
 pub struct Fill {
     pub number: u32,
     pub quantity: u32,
     pub price: u32,
 }
 
-#[derive(Drop)]
+#[derive(Clone, Copy)]
 pub struct Underlying {
     pub class: Class,
     pub close: u32,
@@ -158,7 +158,7 @@ pub struct Underlying {
     pub daily: u16,
 }
 
-#[derive(Drop)]
+#[derive(Clone, Copy)]
 pub struct Contract {
     pub underlying: u16,
     pub right: Right,
@@ -168,14 +168,14 @@ pub struct Contract {
 }
 
 // A day end's n settlements and m closes; what stands past n and m is no part of the entry.
-#[derive(Drop)]
+#[derive(Clone, Copy)]
 pub struct Figures {
     pub settlements: [u32; terms::CONTRACTS],
     pub closes: [u32; terms::UNDERLYINGS],
 }
 
 // What a kind and its fields say: an entry, or a code that is not listed.
-#[derive(Drop)]
+#[derive(Clone, Copy)]
 pub enum EntryCoded {
     Listed(Entry),
     Unlisted,

@@ -2,7 +2,7 @@
 ghost use Rattle.std.specs.Prelude.{◌≡◌};
 ghost use Rattle.entries.specs.Table.{code_of, kind_coded, length_of, length_fits, is_day_end};
 
-#[derive(Drop)]
+#[derive(Clone, Copy)]
 pub enum Kind {
     Deposit,
     Withdraw,
@@ -20,7 +20,7 @@ pub enum Kind {
 }
 
 // What a code says.
-#[derive(Drop)]
+#[derive(Clone, Copy)]
 pub enum KindCoded {
     Listed(Kind),
     Unlisted,

@@ -1,4 +1,5 @@
 // A request for exercise on the expiry evening. It reads a position and changes none.
+#![tactic(auto)]
 ghost use Rattle.std.specs.Prelude.{true, ◌≡◌, ◌*◌, ◌≤◌, leb};
 ghost use Rattle.exercise.specs.Exercise.{exercise_verdict, request_allowed, taken, brought};
 

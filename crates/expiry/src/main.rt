@@ -1,4 +1,5 @@
 // Questions about the expiry evening from standard input, a line each. As soon as a line is whole its answer is written, a line to standard output.
+#![tactic(auto)]
 mod numbers;
 mod questions;
 mod words;
@@ -14,7 +15,7 @@ use questions::{answer, unreadable};
 const READS: u32 = 4_294_967_295;
 
 // How far the input is read. The buffer starts with the bytes of line number `line` that are there, its end not among them.
-#[derive(Drop)]
+#[derive(Clone, Copy)]
 struct Place {
     held: usize,
     line: u64,

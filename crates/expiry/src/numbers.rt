@@ -2,20 +2,20 @@
 use crate::words;
 
 // The number of the next word and where the word ends, at each of two widths; none where the word spells no number of that width.
-#[derive(Drop)]
+#[derive(Clone, Copy)]
 pub enum Number {
     Value(u32, usize),
     None,
 }
 
-#[derive(Drop)]
+#[derive(Clone, Copy)]
 pub enum Wide {
     Value(u64, usize),
     None,
 }
 
 // What digits come to so far.
-#[derive(Drop)]
+#[derive(Clone, Copy)]
 enum Digits {
     Value(u64),
     None,

@@ -16,21 +16,21 @@ const KEPT: usize = ACCOUNTS + 1;
 const FIELDS: usize = 6;
 
 // What a line's fields come to: a verdict, or the line can't be read.
-#[derive(Drop)]
+#[derive(Clone, Copy)]
 enum Judged {
     By(Verdict),
     Unreadable,
 }
 
 // Where the fields that were read end.
-#[derive(Drop)]
+#[derive(Clone, Copy)]
 enum Fields {
     End(usize),
     Unreadable,
 }
 
 // How many accounts a line has.
-#[derive(Drop)]
+#[derive(Clone, Copy)]
 enum Accounts {
     Count(usize),
     Unreadable,

@@ -1,4 +1,5 @@
 // Postings: what moves money. The sheet is lent to each, which updates it where it stands.
+#![tactic(auto)]
 ghost use Rattle.std.specs.Prelude.{◌≡◌};
 ghost use Rattle.postings.specs.Postings.{posted};
 ghost use Rattle.postings.specs.Room.{Postable};
@@ -7,7 +8,7 @@ use account::Sheet;
 
 // Cash comes in and goes out by deposits and withdrawals, and by premium received and paid; a covered open's premium is no cash before
 // the day end, which joins the two, frees every hold but that of a payout which waits, and has the margin that was worked afresh.
-#[derive(Drop)]
+#[derive(Clone, Copy)]
 pub enum Posting {
     HoldTaken(u64),
     HoldFreed(u64),

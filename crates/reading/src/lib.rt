@@ -1,4 +1,5 @@
 // Reading a record at a place of lent bytes.
+#![tactic(auto)]
 mod numbers;
 
 ghost use Rattle.std.specs.Prelude.{◌≡◌, ◌+◌, ◌*◌, ◌≤◌, length, drop};
@@ -14,13 +15,13 @@ use numbers::{number2, number4, number8, numbers4};
 use terms::{Class, ClassCoded, OrderKind, OrderKindCoded, Refusal, Right, RightCoded};
 
 // What stands at a place: an entry and how long its record is, or why there is none.
-#[derive(Drop)]
+#[derive(Clone, Copy)]
 pub enum Answer {
     Found { entry: Entry, length: usize },
     Refused { why: Refusal, place: usize },
 }
 
-#[derive(Drop)]
+#[derive(Clone, Copy)]
 pub struct Reading {
     pub answer: Answer,
     pub figures: Figures,

@@ -7,7 +7,7 @@ use crate::named::named_at;
 use account::{Named, Seen};
 use entries::Entry;
 
-#[derive(Drop)]
+#[derive(Clone, Copy)]
 pub enum Found {
     At(Named),
     Nothing,

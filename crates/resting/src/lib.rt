@@ -1,4 +1,5 @@
 // The resting order that a number names, with what it is judged by.
+#![tactic(auto)]
 mod found;
 mod named;
 

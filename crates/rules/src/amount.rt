@@ -5,7 +5,7 @@ ghost use Rattle.rules.specs.Margin.{rates_of, amount_of, ◌less◌but_at_least
 use terms::{Class, Right};
 
 // The percentages r and f.
-#[derive(Drop)]
+#[derive(Clone, Copy)]
 pub struct Rates {
     pub r: u8,
     pub f: u8,

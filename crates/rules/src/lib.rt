@@ -1,4 +1,5 @@
 // The exchange's arithmetic: the margin and the premium of one contract, and netting.
+#![tactic(auto)]
 mod amount;
 
 ghost use Rattle.std.specs.Prelude.{◌≡◌, min};
@@ -9,7 +10,7 @@ use amount::{amount, rates_of};
 use terms::{Class, Contracts, Measure, Position, Refusal, Right, unit_allowed};
 
 // What one contract costs, or why that is not said.
-#[derive(Drop)]
+#[derive(Clone, Copy)]
 pub enum Charge {
     Fen(u64),
     Refused(Refusal),

@@ -13,14 +13,14 @@ use terms::{Measure, Refusal, Verdict};
 
 // What a record comes to: why it is refused, what an entry changes, or what makes the book anew. A change is written where the account
 // lives; a book that is made anew comes back whole, which is seldom.
-#[derive(Drop)]
+#[derive(Clone, Copy)]
 pub enum Ruling {
     Refused(Refusal),
     Changes(Change),
     Renews(Renewal),
 }
 
-#[derive(Drop)]
+#[derive(Clone, Copy)]
 pub enum Renewal {
     Underlying(Underlying),
     Contract(Contract),

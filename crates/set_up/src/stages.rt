@@ -7,7 +7,7 @@ use entries::{Contract, Underlying};
 use terms::{Class, Right};
 
 // What a book waits for: underlyings until a contract is accepted, contracts until the opening is, then entries.
-#[derive(Drop)]
+#[derive(Clone, Copy)]
 pub enum Stage {
     Underlyings,
     Contracts,
@@ -15,7 +15,7 @@ pub enum Stage {
 }
 
 // Before the opening the account has nothing in it.
-#[derive(Drop)]
+#[derive(Clone, Copy)]
 pub struct Book {
     pub stage: Stage,
     pub tables: Tables,

@@ -3,14 +3,14 @@ ghost use Rattle.std.specs.Prelude.{◌≡◌};
 ghost use Rattle.terms.specs.Codes.{class_code, class_coded};
 
 // What an underlying is.
-#[derive(Drop)]
+#[derive(Clone, Copy)]
 pub enum Class {
     Stock,
     Fund,
 }
 
 // What a code says. A code that is not listed is an answer too: the reader of records refuses it.
-#[derive(Drop)]
+#[derive(Clone, Copy)]
 pub enum ClassCoded {
     Listed(Class),
     Unlisted,

@@ -3,7 +3,7 @@ ghost use Rattle.std.specs.Prelude.{◌≡◌};
 ghost use Rattle.terms.specs.Codes.{kind_code, kind_coded};
 ghost use Rattle.terms.specs.Kinds.{moves_of, opens_of, buys_of};
 
-#[derive(Drop)]
+#[derive(Clone, Copy)]
 pub enum OrderKind {
     BuyOpen,
     SellClose,
@@ -14,14 +14,14 @@ pub enum OrderKind {
 }
 
 // What a code says.
-#[derive(Drop)]
+#[derive(Clone, Copy)]
 pub enum OrderKindCoded {
     Listed(OrderKind),
     Unlisted,
 }
 
 // The three counts of a position.
-#[derive(Drop)]
+#[derive(Clone, Copy)]
 pub enum Side {
     Long,
     Short,

@@ -13,7 +13,7 @@ pub const ACCOUNTS: usize = 256;
 
 const UNIT_STEP: u64 = 100;
 
-#[derive(Drop)]
+#[derive(Clone, Copy)]
 pub enum Measure {
     Underlyings,
     Contracts,
@@ -34,7 +34,7 @@ pub enum Measure {
 }
 
 // From the first number to the second, both counted.
-#[derive(Drop)]
+#[derive(Clone, Copy)]
 pub struct Range(pub u64, pub u64);
 
 impl Measure {

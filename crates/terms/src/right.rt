@@ -3,14 +3,14 @@ ghost use Rattle.std.specs.Prelude.{◌≡◌};
 ghost use Rattle.terms.specs.Codes.{right_code, right_coded};
 
 // What the contract gives its holder: to buy the underlying, or to sell it.
-#[derive(Drop)]
+#[derive(Clone, Copy)]
 pub enum Right {
     Call,
     Put,
 }
 
 // What a code says.
-#[derive(Drop)]
+#[derive(Clone, Copy)]
 pub enum RightCoded {
     Listed(Right),
     Unlisted,

@@ -4,7 +4,7 @@ ghost use Rattle.terms.specs.Verdicts.{number_in};
 
 use crate::refusal::Refusal;
 
-#[derive(Drop)]
+#[derive(Clone, Copy)]
 pub enum Verdict {
     Accepted,
     Refused(Refusal),

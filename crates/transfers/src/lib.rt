@@ -1,4 +1,5 @@
 // Money in and out, and units locked and released.
+#![tactic(auto)]
 mod cash;
 mod payouts;
 mod units;

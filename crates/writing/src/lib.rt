@@ -1,4 +1,5 @@
 // Writing an entry's record into lent bytes.
+#![tactic(auto)]
 mod numbers;
 
 ghost use Rattle.std.specs.Prelude.{◌≡◌, [], ◌∷◌, ◌+◌, ◌*◌, ◌≤◌, length};
@@ -13,7 +14,7 @@ use numbers::{put2, put4, put8, puts4};
 use terms::Refusal;
 
 // How many bytes were written, or why none was.
-#[derive(Drop)]
+#[derive(Clone, Copy)]
 pub enum Written {
     Bytes(usize),
     Refused(Refusal),
