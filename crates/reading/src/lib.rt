@@ -1,5 +1,6 @@
 // Reading a record at a place of lent bytes.
 #![tactic(auto)]
+
 mod numbers;
 
 ghost use Rattle.std.specs.Prelude.{◌≡◌, ◌+◌, ◌*◌, ◌≤◌, length, drop};
