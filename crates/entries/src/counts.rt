@@ -12,12 +12,14 @@ pub fn allowed(n: u16, m: u16) -> bool
 }
 
 // How long the record of a day end with such counts is.
+#[tactic(auto, using(crate::proofs::Runs::total_fours))]
 pub fn length(n: u16, m: u16) -> usize
     ensures { result ≡ length_of Kind.DayEnd n m }
 {
     8 + 4 * (n as usize + m as usize)
 }
 
+#[tactic(auto, unfolding(crate::specs::Table::counts_fit))]
 pub fn fit(n: u16, m: u16, size: u16) -> bool
     ensures { result ≡ counts_fit n m size }
 {

@@ -96,6 +96,7 @@ impl Kind {
     }
 
     // Whether a record of the kind can be this long.
+    #[tactic(auto, unfolding(crate::specs::Table::length_fits))]
     pub fn fits(self, length: u16) -> bool
         ensures { result ≡ length_fits self length }
     {

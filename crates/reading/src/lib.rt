@@ -1,5 +1,6 @@
 // Reading a record at a place of lent bytes.
 #![tactic(auto)]
+
 mod numbers;
 
 ghost use Rattle.std.specs.Prelude.{◌≡◌, ◌+◌, ◌*◌, ◌≤◌, length, drop};
@@ -28,6 +29,7 @@ pub struct Reading {
 }
 
 // The record at a place, which may be any number.
+#[tactic(auto, unfolding(crate::specs::Reading::read_at, crate::specs::Reading::read_from))]
 pub fn read(s: &[u8], place: usize) -> Reading
     ensures { result ≡ read_at s.now place }
 {
@@ -60,6 +62,7 @@ fn refused(why: Refusal, place: usize) -> Reading
     }
 }
 
+#[tactic(auto, unfolding(crate::specs::Reading::of_kind, entries::specs::Table::length_fits))]
 fn of_kind(r: &[u8], place: usize, kind: Kind) -> Reading
     requires { 4 ≤ length r.now }
     ensures { result ≡ of_kind place r.now kind }
@@ -76,6 +79,7 @@ fn of_kind(r: &[u8], place: usize, kind: Kind) -> Reading
 }
 
 // The counts are judged as soon as they are there, before the figures are.
+#[tactic(auto, unfolding(crate::specs::Reading::counted, crate::specs::Reading::whole_at))]
 fn day_end(r: &[u8], place: usize, size: u16) -> Reading
     ensures { result ≡ counted place r.now size }
 {
@@ -99,6 +103,7 @@ fn day_end(r: &[u8], place: usize, size: u16) -> Reading
     }
 }
 
+#[tactic(auto, unfolding(crate::specs::Reading::whole_at))]
 fn whole(r: &[u8], place: usize, size: usize, kind: Kind) -> Reading
     requires { length_of kind 0 0 ≤ size }
     ensures { result ≡ whole_at place r.now size kind no_figures }

@@ -1,17 +1,13 @@
--- `figures_at` meets its contract: the first n and m places hold the numbers read, and those past them the zeros they came with.
-use mathlib.Core.Path.{◌≡◌, sym, ap, ap₂, ◌∙◌}
-use mathlib.Core.List.{List, ◌++◌}
-use Prim.Native.Nat.{ℕ, ◌+◌, ◌-◌, ◌*◌, ◌≤◌}
+-- The first n and m places hold the numbers read, and those past them the zeros they came with.
+use Rattle.std.proofs.Common.{◌≡◌, sym, ap, ap₂, ◌∙◌, List, ◌++◌, ℕ, ◌+◌, ◌-◌, ◌*◌, ◌≤◌, length, take, drop, replicate}
 use native.Mathlib.Nat.{add-sub_of_le, le_of_eq}
-use borrow.Author.Rules.{rules}
-use lib.ListN.{length, take, drop, replicate, length-replicate, replicate-append-replicate}
+use lib.ListN.{length-replicate, replicate-append-replicate}
 use lib.Seq.{length-take-le, take_all, take_at, drop_at}
 use Rattle.entries.specs.Entries.{figures_from}
 use Rattle.entries.specs.Numbers.{numbers_at}
 use Rattle.entries.specs.Table.{figures_of}
 use Rattle.entries.proofs.Runs.{total_fours, numbers_append, length_numbers}
-use Rattle.reading.proofs.figures_at.Statement.{statement}
-use Rattle.reading.proofs.figures_at.Tie as tie
+use Rattle.reading.proofs.figures_at.Goals as goal
 
 fours : List ℕ → ℕ → ℕ → List ℕ
 fours r at n = numbers_at (replicate n 4) r at
@@ -59,18 +55,5 @@ module _ (r : List ℕ) (n m : ℕ) where
       let c = ap₂ ◌++◌ (read_m ∙ ap (fours r (8 + 4 * n)) (lent 8 m hm) ∙ closed) (left 8 m hm) in
       λ i. record { settlements = s i; closes = c i }
 
-pub figures_at_spec : {M : Type 1} → statement M
-figures_at_spec =
-    tie.close
-    (tie.spec
-    (λ c. search rules)
-    (λ c. sym (lent 64 _ c.before.before.requires.0))
-    (λ c κs. rw (lent 64 c.before.before.args.n c.before.before.requires.0) (search rules))
-    (λ c. search rules)
-    (λ c. search rules)
-    (λ c. search rules)
-    (λ c. sym (lent 8 _ c.before.before.before.before.before.requires.1))
-    (λ c κs. rw (lent 8 c.before.before.before.before.before.args.m c.before.before.before.before.before.requires.1) (search rules))
-    (λ c.
-    let start = c.before.before.before.before.before.before.before in
-    made _ _ _ start.requires.0 start.requires.1 _ _ c.before.before.before.before.numbers4.ensures c.before.numbers42.ensures))
+pub returns : goal.returns
+returns c = made _ _ _ c.requires.0 c.requires.1 _ _ c.numbers4.ensures c.numbers4-2.ensures
