@@ -1,21 +1,16 @@
 -- `reached` meets its contract: units for the count, times the strike, are strike times unit times the count, at most 10 ^ 16 where the ranges hold; for a put the units are all.
-use mathlib.Core.Path.{◌≡◌, sym, ap, ◌∙◌}
-use mathlib.Core.Bool.{true, ◌&&◌}
-use Prim.Native.Nat.{ℕ, ◌*◌, ◌≤◌}
-use native.Mathlib.Nat.{mul_assoc, mul_comm, mul-le-mul}
-use borrow.Author.Rules.{rules}
-use lib.Dec.{leb}
+use Rattle.std.proofs.Common.{◌≡◌, ℕ, ◌*◌, ◌≤◌, true, ◌&&◌, leb, sym, ap, ◌∙◌}
+use Rattle.std.proofs.Math.Nat.{mul_assoc, mul_comm, mul-le-mul}
 use Rattle.terms.specs.Counts.{units_for}
 use Rattle.terms.specs.Ranges.{range_of, unit_allowed, ◌∈◌}
 use Rattle.terms.specs.declared.count.Contracts.{Contracts}
 use Rattle.terms.specs.declared.count.Units.{Units}
 use Rattle.terms.specs.declared.measure.Measure.TheVariants.{Exercise, Price}
 use Rattle.terms.specs.declared.right.Right.{Right}
-use Rattle.terms.specs.declared.right.Right.TheVariants.{Call, Put}
+use Rattle.terms.specs.declared.right.Right.TheVariants.{Call}
 use Rattle.terms.proofs.Ranges.{first_holds, second_holds, inside, unit_inside}
 use Rattle.exercise.specs.Exercise.{request_allowed, taken, brought}
-use Rattle.exercise.proofs.reached.Statement.{statement}
-use Rattle.exercise.proofs.reached.Tie as tie
+use Rattle.exercise.proofs.reached.Goals as goal
 
 module _ (K U : ℕ) (count : Contracts) (units : Units) (made : units ≡ units_for count U) where
   small : request_allowed K U count ≡ true → K * units.0 ≤ 10_000_000_000_000_000
@@ -33,18 +28,8 @@ module _ (K U : ℕ) (count : Contracts) (units : Units) (made : units ≡ units
   unfolding taken brought
   money right call fen = rw (call, made) (ap (λ (due : ℕ). leb due (100 * fen)) (ap (λ (x : ℕ). K * x) (mul_comm count.0 U) ∙ sym (mul_assoc K U count.0)))
 
-  goods : (right : Right) → right ≡ Put → (offered : ℕ) → leb units.0 offered ≡ leb (taken right K U count) (brought right offered)
-  unfolding taken brought
-  goods right put offered = rw (put, made)
+pub paid-requires : goal.paid-requires
+paid-requires c = small _ _ _ _ c.units.ensures c.requires
 
-pub reached_spec : {M : Type 1} → statement M
-reached_spec =
-    tie.close
-    (tie.spec
-    (λ c. search rules)
-    (λ c κs. tt)
-    (λ c κs. small _ _ _ _ c.units.ensures c.before.before.before.requires)
-    (λ c. search rules)
-    (λ c κs. tt)
-    (λ c. c.paid.ensures ∙ money _ _ _ _ c.before.units.ensures _ c.before.before.enum_told.given.1 _)
-    (λ c. goods _ _ _ _ c.before.units2.ensures _ c.before.before.enum-told2.given.1 _))
+pub returns-in-Call : goal.returns-in-Call
+returns-in-Call c = c.paid.ensures ∙ money _ _ _ _ c.units.ensures _ c.in-Call.is _
