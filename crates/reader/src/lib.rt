@@ -1,5 +1,6 @@
 // A reader: the lent bytes, and the place of the next record in them.
 #![tactic(auto)]
+
 ghost use Rattle.std.specs.Prelude.{◌≡◌};
 ghost use Rattle.reading.specs.Reading.{read_at};
 ghost use Rattle.reader.specs.Reader.{found_at, moved_on};

@@ -1,5 +1,6 @@
 // Writing an entry's record into lent bytes.
 #![tactic(auto)]
+
 mod numbers;
 
 ghost use Rattle.std.specs.Prelude.{◌≡◌, [], ◌∷◌, ◌+◌, ◌*◌, ◌≤◌, length};

@@ -3,6 +3,7 @@ ghost use Rattle.std.specs.Prelude.{◌≡◌, ◌+◌, ◌*◌, ◌≤◌, leng
 ghost use Rattle.std.proofs.lemmas.List.Edits.{sets};
 ghost use Rattle.entries.specs.Numbers.{bytes, packed};
 
+#[tactic(auto, unfolding(entries::specs::Numbers::bytes))]
 pub(crate) fn put2(buffer: &mut [u8], at: usize, x: u16)
     requires { at + 2 ≤ length buffer.old }
     ensures { buffer.new ≡ sets buffer.old at (bytes 2 x) }
