@@ -32,6 +32,7 @@ pub fn decide(seen: Seen, n: u16, m: u16, figures: Figures) -> Decision
 }
 
 // Whether each of the first n prices is in its range.
+#[tactic(auto, using(terms::proofs::Listed::one_fails))]
 fn all_allowed(prices: &[u32], n: usize, measure: Measure) -> bool
     requires { n ≤ length prices.now }
     ensures { result ≡ every n (λ i. get_or prices.now i 0 ∈ range_of measure) }
@@ -47,6 +48,7 @@ fn all_allowed(prices: &[u32], n: usize, measure: Measure) -> bool
 }
 
 // The new figures in the rows that the tables have.
+#[tactic(auto, unfolding(account::specs::DayEnd::figures_installed, crate::specs::Passes::changed_to))]
 pub(crate) fn installed(tables: Tables, figures: Figures) -> Tables
     requires { SoundTables tables }
     ensures { result ≡ figures_installed tables figures }
