@@ -32,7 +32,6 @@ pub fn decide(seen: Seen, n: u16, m: u16, figures: Figures) -> Decision
 }
 
 // Whether each of the first n prices is in its range.
-#[tactic(auto, using(terms::proofs::Listed::one_fails))]
 fn all_allowed(prices: &[u32], n: usize, measure: Measure) -> bool
     requires { n ≤ length prices.now }
     ensures { result ≡ every n (λ i. get_or prices.now i 0 ∈ range_of measure) }

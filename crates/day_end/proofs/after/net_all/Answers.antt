@@ -17,8 +17,8 @@ loop-c-preserved c =
     record {
       in_range = omega arith;
       so_far =
-        ap (set c.loop-c.after c.loop-c.c) c.net.ensures
-        ∙ one_changed 64 no_position (λ i. netted) c.args.positions c.requires c.loop-c.c (omega arith) _ c.loop-c.invariant.so_far;
+          ap (set c.loop-c.after c.loop-c.c) c.net.ensures
+          ∙ one_changed 64 no_position (λ i. netted) c.args.positions c.requires c.loop-c.c (omega arith) _ c.loop-c.invariant.so_far;
     }
 
 pub returns : goal.returns

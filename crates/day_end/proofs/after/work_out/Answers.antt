@@ -1,6 +1,5 @@
 -- `work_out` meets its contract: each turn adds one contract's margin, and its units and what is held of it to those of its underlying.
-use Rattle.std.proofs.Common.{◌<◌, arith}
-use Rattle.account.specs.Rows.{contract}
+use Rattle.std.proofs.Common.{arith}
 use Rattle.day_end.proofs.MarginPass as margins
 use Rattle.day_end.proofs.Summed.{row_inside}
 use Rattle.day_end.proofs.TotalsPass as totals

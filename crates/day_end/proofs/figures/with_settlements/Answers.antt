@@ -1,8 +1,6 @@
 -- `with_settlements` meets its contract: each turn puts the next settlement into its row, and the rows past the last stay.
-use Rattle.std.proofs.Common.{◌≡◌, ap, arith}
-use mathlib.Core.Path.{◌∙◌}
+use Rattle.std.proofs.Common.{arith}
 use Rattle.account.specs.Rows.{no_contract}
-use Rattle.day_end.specs.Passes.{changed_to}
 use Rattle.day_end.proofs.Listing.{none_changed, one_changed}
 use Rattle.day_end.proofs.figures.with_settlements.Goals as goal
 
