@@ -11,7 +11,7 @@ make_small_tree() {
 
 small_crates() {
     for crate in first second book expiry; do mkdir -p "$small/crates/$crate/src"; done
-    printf '# A small tree.\nfirst:\nsecond: first\nbook: second io libc\nexpiry: first io libc\n' >"$small/crates.txt"
+    printf '# A small tree.\nfirst:\nsecond: first\nbook: second io\nexpiry: first io\n' >"$small/crates.txt"
     echo 'pub fn seven() -> usize { 7 }' >"$small/crates/first/src/lib.rt"
     echo 'pub fn again() -> usize { first::seven() }' >"$small/crates/second/src/lib.rt"
     cat >"$small/crates/book/src/main.rt" <<'END'

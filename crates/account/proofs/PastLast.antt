@@ -13,7 +13,7 @@ module _ {A : Type 0} (n : ℕ) (rows : List A) (size : length rows ≡ n) (i : 
   pub none_there : (none : A) → n ≤ i → none ≡ get_or rows i none
   none_there none out = sym (get_or-eq_default rows none (past out))
 
-  none_set : (x : A) → n ≤ i → rows ≡ set rows i x
+  pub none_set : (x : A) → n ≤ i → rows ≡ set rows i x
   none_set x out = sym (set_out rows i x (past out))
 
   -- where two ways meet, one that sets the row and one that leaves it: what has the rows has the row set

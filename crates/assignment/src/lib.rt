@@ -1,5 +1,6 @@
 // Assignment on the expiry evening: exercised contracts go to the accounts that are short or covered.
 #![tactic(auto)]
+
 mod shares;
 
 ghost use Rattle.std.specs.Prelude.{◌≡◌, length};
@@ -20,6 +21,7 @@ enum Total {
 
 // The accounts are numbered by their places in `short` and `covered`, which tell of each what it holds after netting. Into the same places go
 // the contracts that are assigned to it: `cover` has the covered ones, `naked` the others.
+#[tactic(auto, using(crate::proofs::Verdicts::not_allowed, crate::proofs::Verdicts::above))]
 pub fn assign(
     exercised: Contracts,
     short: &[u32],
@@ -96,6 +98,7 @@ fn lay(
 }
 
 // Takes the covered contracts out of what each account is assigned.
+#[tactic(auto, using(crate::proofs::Filled::all_filled), unfolding(crate::specs::Lent::covered_shares, crate::specs::Lent::uncovered_shares))]
 fn covered_first(covered: &[u32], cover: &mut [u32], shares: &mut [u32])
     requires { Rows covered.now cover.old × Rows covered.now shares.old }
     ensures covered { cover.new ≡ covered_shares covered.now shares.old }

@@ -72,6 +72,7 @@ fn share_of(exercised: u32, total: u32, s: u32) -> Share
 }
 
 // One contract to the largest fraction, which is then used up, until none is left.
+#[tactic(auto, using(crate::proofs::HandedOut::hands_none, crate::proofs::HandedOut::hands_one))]
 fn hand_out(left: u32, shares: &mut [u32], fractions: &mut [u32])
     requires { Handable left fractions.old shares.old }
     ensures { shares.new ≡ hand_out left fractions.old shares.old }
@@ -87,6 +88,7 @@ fn hand_out(left: u32, shares: &mut [u32], fractions: &mut [u32])
 
 // The account with the largest fraction, the lowest number where several have it: from the last to the first, one that is not smaller takes
 // the place.
+#[tactic(auto, using(crate::proofs::Largest::last_alone))]
 fn largest(fractions: &[u32]) -> usize
     requires { 0 < length fractions.now }
     ensures { (result ≡ largest fractions.now) × (result < length fractions.now) }

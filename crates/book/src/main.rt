@@ -6,7 +6,8 @@ ghost use Rattle.std.specs.Prelude.{◌≡◌, ◌≤◌, length, take, drop};
 ghost use Rattle.book.specs.Lines.{printed_for};
 
 use desk::run_on;
-use libc::{STDIN_FILENO, STDOUT_FILENO};
+use lines::input::STANDARD_INPUT;
+use lines::output::STANDARD_OUTPUT;
 use set_up::Book;
 use text::lines;
 
@@ -18,7 +19,7 @@ const PAGE: usize = 32 * LINES;
 
 fn main() {
     let mut buffer = io::large_buffer();
-    let n = io::read_full(STDIN_FILENO, &mut buffer);
+    let n = io::read_full(STANDARD_INPUT, &mut buffer);
     print(&buffer[..n]);
 }
 
@@ -55,5 +56,5 @@ fn print(bytes: &[u8]) -> usize
 fn put(bytes: &[u8], written: usize, page: &[u8])
     requires { page.now ≡ take (length page.now) (drop written (printed_for bytes.now)) }
 {
-    io::write_all(STDOUT_FILENO, page);
+    io::write_all(STANDARD_OUTPUT, page);
 }

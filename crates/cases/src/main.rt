@@ -1,5 +1,6 @@
 // Runs the examples of standard input, a line each, through the compiled functions, and writes each line again with '=' and what came out.
 #![tactic(auto)]
+
 mod asked;
 mod charges;
 mod found;
@@ -7,12 +8,12 @@ mod ranges;
 mod reads;
 mod writes;
 
-use lines::input::{letter, line_end};
+use lines::input::{STANDARD_INPUT, letter, line_end};
 use lines::output::text;
 
 fn main() {
     let mut buffer = io::large_buffer();
-    let n = io::read_full(0, &mut buffer);
+    let n = io::read_full(STANDARD_INPUT, &mut buffer);
     run(&buffer[..n]);
 }
 

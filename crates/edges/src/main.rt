@@ -8,7 +8,7 @@ ghost use Rattle.account.specs.Sound.{Sound};
 
 use account::{Account, Outcome};
 use asked::{entry, figures};
-use lines::input::{field, letter, line_end};
+use lines::input::{STANDARD_INPUT, field, letter, line_end};
 use lines::output::text;
 use shown::{rows, show};
 use steps::step;
@@ -16,7 +16,7 @@ use terms::{Measure, Refusal, Verdict};
 
 fn main() {
     let mut buffer = io::large_buffer();
-    let n = io::read_full(0, &mut buffer);
+    let n = io::read_full(STANDARD_INPUT, &mut buffer);
     run(&buffer[..n]);
 }
 

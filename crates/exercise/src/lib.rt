@@ -1,5 +1,6 @@
 // A request for exercise on the expiry evening. It reads a position and changes none.
 #![tactic(auto)]
+
 ghost use Rattle.std.specs.Prelude.{true, ◌≡◌, ◌*◌, ◌≤◌, leb};
 ghost use Rattle.exercise.specs.Exercise.{exercise_verdict, request_allowed, taken, brought};
 
@@ -7,6 +8,7 @@ use rules::net;
 use terms::{Contracts, Measure, Position, Refusal, Right, Units, Verdict, unit_allowed};
 
 // What is offered is fen for a call, units of the underlying for a put.
+#[tactic(auto, unfolding(crate::specs::Exercise::exercise_verdict, crate::specs::Exercise::request_allowed, crate::specs::Exercise::long_left))]
 pub fn exercise(
     right: Right,
     strike: u32,
@@ -35,6 +37,7 @@ pub fn exercise(
 }
 
 // Asked once the ranges hold: they keep strike times unit times the count within 64 bits.
+#[tactic(auto, unfolding(crate::specs::Exercise::request_allowed, crate::specs::Exercise::taken, crate::specs::Exercise::brought, terms::specs::Counts::units_for))]
 fn reached(right: Right, strike: u32, unit: u32, count: Contracts, offered: u64) -> bool
     requires { request_allowed strike unit count ≡ true }
     ensures { result ≡ leb (taken right strike unit count) (brought right offered) }

@@ -1,5 +1,6 @@
 // Questions about the expiry evening from standard input, a line each. As soon as a line is whole its answer is written, a line to standard output.
 #![tactic(auto)]
+
 mod numbers;
 mod questions;
 mod words;
@@ -7,9 +8,9 @@ mod words;
 ghost use Rattle.std.specs.Prelude.{◌≡◌, ◌+◌, ◌<◌, ◌≤◌, length};
 ghost use Rattle.io.specs.Counts.{IsPrefixLen};
 
-use libc::STDIN_FILENO;
 use lines::input::line_end;
 use questions::{answer, unreadable};
+use std::io::{Read, Stdin};
 
 // A loop must end: no more reads than these are made, of up to 65,536 bytes each.
 const READS: u32 = 4_294_967_295;
@@ -23,7 +24,8 @@ struct Place {
     skips: bool,
 }
 
-fn main() {
+fn main(rt: HostRuntime) {
+    let stdin = rt.stdin();
     let mut buffer = io::large_buffer();
     let mut place = Place {
         held: 0,
@@ -33,7 +35,7 @@ fn main() {
     let mut reads = READS;
     while 0 < reads {
         let held = place.held;
-        let n = read_behind(&mut buffer, held);
+        let n = read_behind(stdin, &mut buffer, held);
         if n == 0 {
             last(&buffer[..held], place);
             return;
@@ -44,18 +46,18 @@ fn main() {
 }
 
 // One read, which waits for no more than there is, into the places behind what is held; how many bytes came.
-fn read_behind(buffer: &mut [u8], held: usize) -> usize
+fn read_behind(stdin: Stdin, buffer: &mut [u8], held: usize) -> usize
     requires { held ≤ length buffer.old }
     ensures { held + result ≤ length buffer.new }
 {
-    read(&mut buffer[held..])
+    read(stdin, &mut buffer[held..])
 }
 
-fn read(into: &mut [u8]) -> usize
+// A read that fails ends the input.
+fn read(mut stdin: Stdin, into: &mut [u8]) -> usize
     ensures { IsPrefixLen result into.new }
 {
-    let got = libc::read(STDIN_FILENO, into);
-    io::count(got, into)
+    stdin.read(into).unwrap_or(0)
 }
 
 // Answers the lines that are whole, and moves what is there of the next to the buffer's start.
@@ -102,7 +104,7 @@ fn whole_lines(s: &[u8], place: Place) -> Place
             answer(&s[start..stop], line);
         }
         // The reads end long before this wraps.
-        line = std::num::wrapping_add_u64(line, 1);
+        line = line.wrapping_add(1);
         start = stop + 1;
         stop = line_end(s, start);
     }

@@ -3,10 +3,9 @@ ghost use Rattle.std.specs.Prelude.{◌≤◌};
 
 use crate::numbers::{Number, Wide, next, next_wide};
 use crate::words;
-use libc::STDOUT_FILENO;
 use lines::input::letter;
 use lines::output;
-use lines::output::text;
+use lines::output::{STANDARD_OUTPUT, text};
 use terms::{ACCOUNTS, Contracts, Position, Right, RightCoded, Verdict};
 
 // One account more than can be assigned to: that is enough for a refusal, however many a line has.
@@ -70,7 +69,7 @@ fn exercise_asked(l: &[u8], from: usize, line: u64) {
 
 // A verdict's number starts its line, so that no space stands before it.
 fn begin(verdict: Verdict) {
-    io::print_decimal(STDOUT_FILENO, verdict.number() as u64);
+    io::print_decimal(STANDARD_OUTPUT, verdict.number() as u64);
 }
 
 fn request(l: &[u8], from: usize) -> Judged {

@@ -3,6 +3,9 @@ ghost use Rattle.std.specs.Prelude.{◌≤◌, max, length, ◌≡◌};
 ghost use Rattle.io.specs.Counts.{IsPrefixLen};
 ghost use Rattle.lines.specs.Ends.{line_end};
 
+// The descriptor of standard input.
+pub const STANDARD_INPUT: i32 = 0;
+
 // How many bytes an example can lend: more than the 296 of the longest record, so that something can stand around one.
 pub const LENT: usize = 320;
 

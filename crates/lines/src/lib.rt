@@ -1,5 +1,6 @@
 // Lines of text, by which examples are asked and answered.
 #![tactic(auto)]
+
 pub mod codes;
 pub mod input;
 pub mod output;

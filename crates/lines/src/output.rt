@@ -1,23 +1,25 @@
 // What is written to standard output.
 ghost use Rattle.std.specs.Prelude.{◌≡◌, nat_abs};
 
-use libc::STDOUT_FILENO;
 use terms::Refusal;
 
+// The descriptor of standard output.
+pub const STANDARD_OUTPUT: i32 = 1;
+
 pub fn text(bytes: &[u8]) {
-    io::write_all(STDOUT_FILENO, bytes);
+    io::write_all(STANDARD_OUTPUT, bytes);
 }
 
 pub fn number(n: u64) {
     text(b" ");
-    io::print_decimal(STDOUT_FILENO, n);
+    io::print_decimal(STANDARD_OUTPUT, n);
 }
 
 // A number that may lie below zero, with a minus before its digits.
 pub fn signed(n: i64) {
     if n < 0 {
         text(b" -");
-        io::print_decimal(STDOUT_FILENO, magnitude(n));
+        io::print_decimal(STANDARD_OUTPUT, magnitude(n));
     } else {
         number(magnitude(n));
     }
@@ -50,7 +52,7 @@ pub fn hex4(n: u16) {
 
 fn hex(n: u64, digits: usize) {
     text(b" ");
-    io::print_hex(STDOUT_FILENO, n, digits);
+    io::print_hex(STANDARD_OUTPUT, n, digits);
 }
 
 // Bytes, two digits each; a dash where there is none.
@@ -72,5 +74,5 @@ fn each(s: &[u8]) {
 }
 
 fn byte(b: u8) {
-    io::print_hex(STDOUT_FILENO, b as u64, 2);
+    io::print_hex(STANDARD_OUTPUT, b as u64, 2);
 }

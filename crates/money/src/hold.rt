@@ -42,6 +42,7 @@ pub fn premium_one(price: u32, unit: u32) -> u64
 }
 
 // The figures of a sound account are in their ranges, so a charge is never refused there.
+#[tactic(auto, unfolding(rules::specs::Charges::fen_in))]
 fn fen(charge: Charge) -> u64
     ensures { result ≡ fen_in charge }
 {

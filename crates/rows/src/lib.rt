@@ -1,5 +1,6 @@
 // The rows of the tables: whether the values of one are allowed, and tables and opening cash that are given whole.
 #![tactic(auto)]
+
 mod values;
 
 ghost use Rattle.std.specs.Prelude.{◌≡◌, ◌≤◌, get_or};

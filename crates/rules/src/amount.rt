@@ -11,6 +11,7 @@ pub struct Rates {
     pub f: u8,
 }
 
+#[tactic(auto, unfolding(crate::specs::Margin::rates_of))]
 pub fn rates_of(class: Class, right: Right) -> Rates
     ensures { result ≡ rates_of class right }
 {
@@ -24,6 +25,7 @@ pub fn rates_of(class: Class, right: Right) -> Rates
 }
 
 // A, by one law for every r and f.
+#[tactic(auto, using(crate::proofs::Less::bounded, terms::proofs::Product::product_below), unfolding(crate::specs::Margin::amount_of, crate::specs::Margin::out_of_the_money))]
 pub fn amount(rates: Rates, right: Right, settlement: u32, close: u32, strike: u32) -> u64
     ensures { result ≡ amount_of rates right settlement close strike }
 {
@@ -43,6 +45,7 @@ pub fn amount(rates: Rates, right: Right, settlement: u32, close: u32, strike: u
 }
 
 // a less b, but at least the floor. No difference is made that would be below zero.
+#[tactic(auto, using(crate::proofs::Less::reached, crate::proofs::Less::unreached))]
 fn less(a: u64, b: u64, floor: u64) -> u64
     ensures { result ≡ (a less b but_at_least floor) }
 {

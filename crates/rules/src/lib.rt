@@ -1,5 +1,6 @@
 // The exchange's arithmetic: the margin and the premium of one contract, and netting.
 #![tactic(auto)]
+
 mod amount;
 
 ghost use Rattle.std.specs.Prelude.{◌≡◌, min};
@@ -16,6 +17,7 @@ pub enum Charge {
     Refused(Refusal),
 }
 
+#[tactic(auto, unfolding(crate::specs::Charges::margin_charge, crate::specs::Charges::margin_allowed))]
 pub fn margin(
     class: Class,
     right: Right,
@@ -38,6 +40,7 @@ pub fn margin(
     }
 }
 
+#[tactic(auto, unfolding(crate::specs::Charges::premium_charge, crate::specs::Charges::premium_allowed, crate::specs::Premium::premium_of))]
 pub fn premium(price: u32, unit: u32) -> Charge
     ensures { result ≡ premium_charge price unit }
 {
@@ -49,6 +52,7 @@ pub fn premium(price: u32, unit: u32) -> Charge
 }
 
 // Long against short first, then what is left of long against covered.
+#[tactic(auto, unfolding(crate::specs::Netting::netted, crate::specs::Netting::against_short, crate::specs::Netting::against_covered))]
 pub fn net(position: Position) -> Position
     ensures { result ≡ netted position }
 {

@@ -8,7 +8,7 @@ mod shown;
 ghost use Rattle.std.specs.Prelude.{◌≤◌};
 
 use asked::run_of;
-use lines::input::{field, letter, line_end};
+use lines::input::{STANDARD_INPUT, field, letter, line_end};
 use lines::output::text;
 use shown::{numbers, sums, told};
 
@@ -22,7 +22,7 @@ const SUM_MARK: i64 = 7;
 
 fn main() {
     let mut buffer = io::large_buffer();
-    let n = io::read_full(0, &mut buffer);
+    let n = io::read_full(STANDARD_INPUT, &mut buffer);
     run(&buffer[..n]);
 }
 

@@ -1,5 +1,6 @@
 // The words of the trade, and the numbers that the paper gives for them.
 #![tactic(auto)]
+
 mod class;
 mod count;
 mod kind;
