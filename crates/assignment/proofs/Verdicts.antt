@@ -20,9 +20,9 @@ module _ (E : ℕ) (short covered : List ℕ) (places places' : ℕ) where
   unfolding assign_verdict
   four h = rw h refl
 
-  pub not_allowed_lem : totalled short covered ≡ NotAllowed → Refused OutOfRange ≡ assign_verdict E short covered places places'
+  pub not_allowed : totalled short covered ≡ NotAllowed → Refused OutOfRange ≡ assign_verdict E short covered places places'
   unfolding assign_allowed totalled
-  not_allowed_lem e = four (rw (tells (accounts_allowed short covered) refl) refl)
+  not_allowed e = four (rw (tells (accounts_allowed short covered) refl) refl)
     where
       tells : (b : Bool) → accounts_allowed short covered ≡ b → b ≡ false
       tells false t = refl

@@ -21,7 +21,7 @@ enum Total {
 
 // The accounts are numbered by their places in `short` and `covered`, which tell of each what it holds after netting. Into the same places go
 // the contracts that are assigned to it: `cover` has the covered ones, `naked` the others.
-#[tactic(auto, using(crate::proofs::Verdicts::not_allowed_lem, crate::proofs::Verdicts::above, crate::proofs::Verdicts::no_place, crate::proofs::Verdicts::no_place_either, crate::proofs::Verdicts::accepted, crate::proofs::Verdicts::may))]
+#[tactic(auto, using(crate::proofs::Verdicts::not_allowed, crate::proofs::Verdicts::above))]
 pub fn assign(
     exercised: Contracts,
     short: &[u32],

@@ -88,7 +88,7 @@ fn hand_out(left: u32, shares: &mut [u32], fractions: &mut [u32])
 
 // The account with the largest fraction, the lowest number where several have it: from the last to the first, one that is not smaller takes
 // the place.
-#[tactic(auto, using(crate::proofs::Largest::last_alone, crate::proofs::Largest::not_smaller, crate::proofs::Largest::smaller))]
+#[tactic(auto, using(crate::proofs::Largest::last_alone))]
 fn largest(fractions: &[u32]) -> usize
     requires { 0 < length fractions.now }
     ensures { (result ≡ largest fractions.now) × (result < length fractions.now) }

@@ -47,6 +47,7 @@ fn all_allowed(prices: &[u32], n: usize, measure: Measure) -> bool
 }
 
 // The new figures in the rows that the tables have.
+#[tactic(auto, unfolding(account::specs::DayEnd::figures_installed, crate::specs::Passes::changed_to))]
 pub(crate) fn installed(tables: Tables, figures: Figures) -> Tables
     requires { SoundTables tables }
     ensures { result ≡ figures_installed tables figures }

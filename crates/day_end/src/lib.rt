@@ -1,5 +1,6 @@
 // The day end: refused whole with 4, or figures installed and the account ended on them.
 #![tactic(auto)]
+
 mod after;
 mod figures;
 

@@ -1,5 +1,5 @@
--- What a code says does not hang on what is made of the word: reading stops at the same word or at none, and the answers tell the words from each other and from none.
-use mathlib.Core.Path.{◌≡◌, sym, ap, ◌∙◌}
+-- What a code says does not hang on what is made of the word: reading stops at the same word or at none, and the answers tell the words from each other.
+use mathlib.Core.Path.{◌≡◌}
 use Prim.Native.Nat.{ℕ}
 use Rattle.terms.specs.Codes.{coded, class_code, classes, class_coded, right_code, rights, right_coded, kind_code, kinds, kind_coded}
 use Rattle.terms.specs.declared.class.Class.{Class}
@@ -10,27 +10,14 @@ use Rattle.terms.specs.declared.right.Right.{Right}
 use Rattle.terms.specs.declared.right.RightCoded.TheVariants as Right·answer
 use Rattle.terms.proofs.Codes.{word, unlisted, reads}
 
--- the code that was read says what the code at its place says
-pub says_at : {A : Type 0} (of : ℕ → A) (n at : ℕ) (answer is : A) → n ≡ at → answer ≡ of n → answer ≡ is → of at ≡ is
-says_at of n at answer is e says told = sym (ap of e) ∙ sym says ∙ told
-
 module _ {B : Type 0} (made : Class → B) (none : B) (n : ℕ) where
   pub class_word : (w : Class) → class_coded n ≡ Class·answer.Listed w → coded class_code made none classes n ≡ made w
   class_word w e = elim (reads class_code classes n) [ word v c of ↦ cc (of _ made none, of _ Class·answer.Listed Class·answer.Unlisted) | unlisted of ↦ cc (of _ Class·answer.Listed Class·answer.Unlisted) ]
-
-  pub class_none : class_coded n ≡ Class·answer.Unlisted → coded class_code made none classes n ≡ none
-  class_none e = elim (reads class_code classes n) [ word v c of ↦ cc (of _ Class·answer.Listed Class·answer.Unlisted) | unlisted of ↦ of _ made none ]
 
 module _ {B : Type 0} (made : Right → B) (none : B) (n : ℕ) where
   pub right_word : (w : Right) → right_coded n ≡ Right·answer.Listed w → coded right_code made none rights n ≡ made w
   right_word w e = elim (reads right_code rights n) [ word v c of ↦ cc (of _ made none, of _ Right·answer.Listed Right·answer.Unlisted) | unlisted of ↦ cc (of _ Right·answer.Listed Right·answer.Unlisted) ]
 
-  pub right_none : right_coded n ≡ Right·answer.Unlisted → coded right_code made none rights n ≡ none
-  right_none e = elim (reads right_code rights n) [ word v c of ↦ cc (of _ Right·answer.Listed Right·answer.Unlisted) | unlisted of ↦ of _ made none ]
-
 module _ {B : Type 0} (made : OrderKind → B) (none : B) (n : ℕ) where
   pub kind_word : (w : OrderKind) → kind_coded n ≡ Kind·answer.Listed w → coded kind_code made none kinds n ≡ made w
   kind_word w e = elim (reads kind_code kinds n) [ word v c of ↦ cc (of _ made none, of _ Kind·answer.Listed Kind·answer.Unlisted) | unlisted of ↦ cc (of _ Kind·answer.Listed Kind·answer.Unlisted) ]
-
-  pub kind_none : kind_coded n ≡ Kind·answer.Unlisted → coded kind_code made none kinds n ≡ none
-  kind_none e = elim (reads kind_code kinds n) [ word v c of ↦ cc (of _ Kind·answer.Listed Kind·answer.Unlisted) | unlisted of ↦ of _ made none ]

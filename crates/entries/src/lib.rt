@@ -1,5 +1,6 @@
 // The entries of the book, and the table that their records go by.
 #![tactic(auto)]
+
 pub mod counts;
 mod entry;
 mod kind;

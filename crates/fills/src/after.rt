@@ -11,6 +11,7 @@ use postings::{Posting, posted};
 use terms::{Contracts, OrderKind, Position, Side};
 
 // Its share of the hold is freed, the premium is paid or received, and margin moves with short.
+#[tactic(auto, using(crate::proofs::Posted::fill_posted), unfolding(rules::specs::Count::for_count))]
 pub(crate) fn sheet_after(named: Named, kind: OrderKind, fill: Fill, sum: u64) -> Sheet
     requires { Exact named fill kind sum }
     ensures { result ≡ sheet_after named fill kind }

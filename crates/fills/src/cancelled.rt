@@ -22,6 +22,7 @@ pub fn cancel(seen: Seen) -> Decision
     Decision::Changes(change(named))
 }
 
+#[tactic(auto, unfolding(account::specs::Fills::cancel_change, rules::specs::Count::for_count))]
 fn change(named: Named) -> Change
     requires { Cancellable named }
     ensures { result ≡ cancel_change named }

@@ -53,6 +53,7 @@ fn price_allowed(buys: bool, limit: u32, price: u32) -> bool
     if buys { price <= limit } else { limit <= price }
 }
 
+#[tactic(auto, unfolding(account::specs::Fills::fill_change))]
 fn change(named: Named, kind: OrderKind, fill: Fill, sum: u64) -> Change
     requires { Exact named fill kind sum }
     ensures { result ≡ fill_change named fill }

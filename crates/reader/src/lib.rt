@@ -22,7 +22,7 @@ pub struct Read {
 
 // The answer at a place: a record that is read is passed over, one that is refused is not.
 fn find(bytes: &[u8], place: usize) -> Read
-    ensures { result ≡ found_at bytes.now place }
+    ensures found { result ≡ found_at bytes.now place }
 {
     let reading = read(bytes, place);
     let answer = reading.answer;

@@ -1,5 +1,6 @@
 // The resting order that a number names, with what it is judged by.
 #![tactic(auto)]
+
 mod found;
 mod named;
 
