@@ -23,7 +23,7 @@ pub enum Posting {
 // The sheet after a posting, by value.
 fn after(sheet: Sheet, posting: Posting) -> Sheet
     requires { Postable sheet posting }
-    ensures { result ≡ posted sheet posting }
+    ensures value { result ≡ posted sheet posting }
 {
     let mut after = sheet;
     match posting {

@@ -8,6 +8,7 @@ use account::{Change, Decision, Sheet, Waiting};
 use postings::{Posting, posted};
 use terms::{Measure, Refusal};
 
+#[tactic(auto, unfolding(account::specs::Transfers::deposit_verdict, account::specs::Transfers::deposit_change))]
 pub fn deposit(sheet: Sheet, last: u32, amount: u64) -> Decision
     requires { SoundSheet sheet }
     ensures { result ≡ decided (deposit_verdict sheet amount) (deposit_change sheet last amount) }

@@ -1,5 +1,6 @@
 // Money in and out, and units locked and released.
 #![tactic(auto)]
+
 mod cash;
 mod payouts;
 mod units;

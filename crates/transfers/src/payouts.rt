@@ -10,6 +10,7 @@ use postings::{Posting, posted};
 use terms::{Measure, Refusal};
 
 // What is asked for is held while it waits, so that no order can have it before the bank has paid.
+#[tactic(auto, unfolding(account::specs::Transfers::withdraw_verdict, account::specs::Transfers::withdraw_change))]
 pub fn withdraw(sheet: Sheet, waiting: u64, last: u32, amount: u64) -> Decision
     requires { SoundSheet sheet }
     ensures { result ≡ decided (withdraw_verdict sheet waiting amount) (withdraw_change sheet last amount) }
@@ -27,6 +28,7 @@ pub fn withdraw(sheet: Sheet, waiting: u64, last: u32, amount: u64) -> Decision
     Decision::Changes(Change::of_sheet(held, Waiting::Becomes(amount), last))
 }
 
+#[tactic(auto, unfolding(account::specs::Transfers::payout_verdict, account::specs::Transfers::pay_change))]
 pub fn pay(sheet: Sheet, waiting: u64, last: u32) -> Decision
     requires { SoundPayout sheet waiting }
     ensures { result ≡ decided (payout_verdict waiting) (pay_change sheet last waiting) }
@@ -39,6 +41,7 @@ pub fn pay(sheet: Sheet, waiting: u64, last: u32) -> Decision
     Decision::Changes(Change::of_sheet(paid, Waiting::Becomes(0), last))
 }
 
+#[tactic(auto, unfolding(account::specs::Transfers::payout_verdict, account::specs::Transfers::drop_change))]
 pub fn drop(sheet: Sheet, waiting: u64, last: u32) -> Decision
     requires { SoundPayout sheet waiting }
     ensures { result ≡ decided (payout_verdict waiting) (drop_change sheet last waiting) }
