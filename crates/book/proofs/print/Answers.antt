@@ -58,25 +58,25 @@ module _ {s : List ℕ} {place : ℕ} {book : Book} {run : Run} {numbers : List 
       (long : k ≡ length (lines_from (suc first) (take run.answered numbers) (take run.answered sums)))
       (contents : page ≡ lines_from (suc first) (take run.answered numbers) (take run.answered sums) ++ drop k page₀)
     where
-    on_page : take k page ≡ page_from s first place book
-    on_page = ap (take k) contents ∙ take_at _ _ k (sym long) ∙ ran.shown (suc first)
+      on_page : take k page ≡ page_from s first place book
+      on_page = ap (take k) contents ∙ take_at _ _ k (sym long) ∙ ran.shown (suc first)
 
-    page_is_next : take k page ≡ take (length (take k page)) (drop written (printed_for s))
-    page_is_next = on_page ∙ sym (ap (λ (j : ℕ). take j (drop written (printed_for s))) (ap length on_page) ∙ page_next s first written place book so)
+      page_is_next : take k page ≡ take (length (take k page)) (drop written (printed_for s))
+      page_is_next = on_page ∙ sym (ap (λ (j : ℕ). take j (drop written (printed_for s))) (ap length on_page) ∙ page_next s first written place book so)
 
-    passed : Printed s (written + k) (behind s first (run_from 128 s place book))
-    passed =
-        subst (λ (j : ℕ). Printed s (written + j) (behind s first (run_from 128 s place book))) (sym (long ∙ ap length (ran.shown (suc first))))
-        (page_passed s first written place book so)
+      passed : Printed s (written + k) (behind s first (run_from 128 s place book))
+      passed =
+          subst (λ (j : ℕ). Printed s (written + j) (behind s first (run_from 128 s place book))) (sym (long ∙ ap length (ran.shown (suc first))))
+          (page_passed s first written place book so)
 
-    ends : run.stopped ≡ true → written + k ≡ length (printed_for s)
-    ends stopped = all_written s (written + k) _ passed (none_behind s first (run_from 128 s place book) (sym stops ∙ stopped))
+      ends : run.stopped ≡ true → written + k ≡ length (printed_for s)
+      ends stopped = all_written s (written + k) _ passed (none_behind s first (run_from 128 s place book) (sym stops ∙ stopped))
 
-    goes_on : run.stopped ≡ false → Printed s (written + k) (to_come s (first + run.answered) run.place run.book)
-    goes_on on =
-        subst (Printed s (written + k))
-        (more_behind s first (run_from 128 s place book) (sym stops ∙ on) ∙ ap (λ (r : Run). to_come s (first + r.answered) r.place r.book) (sym ran.is))
-        passed
+      goes_on : run.stopped ≡ false → Printed s (written + k) (to_come s (first + run.answered) run.place run.book)
+      goes_on on =
+          subst (Printed s (written + k))
+          (more_behind s first (run_from 128 s place book) (sym stops ∙ on) ∙ ap (λ (r : Run). to_come s (first + r.answered) r.place r.book) (sym ran.is))
+          passed
 
 pub loop-place-init : goal.loop-place-init
 loop-place-init c = record {
