@@ -24,6 +24,7 @@ pub(crate) fn lines(first: usize, refusals: &[u8], sums: &[i64], out: &mut [u8])
 }
 
 // One line from a place on; where it ends.
+#[tactic(auto, using(crate::proofs::Lengths::length_line))]
 fn line(out: &mut [u8], at: usize, number: usize, refusal: u8, available: i64) -> usize
     requires { at + length (line_of number refusal available) ≤ length out.old }
     ensures next { result ≡ at + length (line_of number refusal available) }

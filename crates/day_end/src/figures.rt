@@ -13,6 +13,7 @@ use account::{Decision, Seen, Tables};
 use entries::{Contract, Entry, Figures, Underlying};
 use terms::{Measure, Refusal};
 
+#[tactic(auto, unfolding(account::specs::DayEnd::day_end_verdict, account::specs::Seen::seen_by))]
 pub fn decide(seen: Seen, n: u16, m: u16, figures: Figures) -> Decision
     requires { SeenOf (Entry.DayEnd n m) seen }
     ensures { Wherever (Entry.DayEnd n m) seen (λ t a. result ≡ ending (day_end_verdict t n m figures)) }

@@ -1,5 +1,6 @@
 // Books every kind of entry from lines of text: each line of standard input is written again with '=' and the account after it.
 #![tactic(auto)]
+
 mod asked;
 mod shown;
 

@@ -38,20 +38,6 @@ length_packed (w ∷ ws) [] e = absurd (omega (arith, e))
 length_packed (w ∷ ws) (x ∷ xs) e =
     length-append (bytes w x) (packed ws xs) ∙ ap₂ (λ (a b : ℕ). a + b) (length_bytes w x) (length_packed ws xs (suc_inj e))
 
--- numbers put one by one, each where the one before it ends
-abbrev pub stores : List ℕ → List ℕ → ℕ → List ℕ → List ℕ
-stores [] xs at l = l
-stores (w ∷ ws) [] at l = l
-stores (w ∷ ws) (x ∷ xs) at l = stores ws xs (at + w) (sets l at (bytes w x))
-
-pub stored : (ws xs : List ℕ) (at : ℕ) (l : List ℕ) → stores ws xs at l ≡ sets l at (packed ws xs)
-stored [] xs at l = refl
-stored (w ∷ ws) [] at l = refl
-stored (w ∷ ws) (x ∷ xs) at l =
-    stored ws xs (at + w) (sets l at (bytes w x))
-    ∙ ap (λ (n : ℕ). sets (sets l at (bytes w x)) (at + n) (packed ws xs)) (sym (length_bytes w x))
-    ∙ sym (sets_append l at (bytes w x) (packed ws xs))
-
 -- one more number of four bytes, read into its place
 pub read_one_more : (r : List ℕ) (at i x : ℕ) (l : List ℕ) → i < length l → x ≡ number_at 4 r (at + 4 * i)
     → set (numbers_at (replicate i 4) r at ++ drop i l) i x ≡ numbers_at (replicate (i + 1) 4) r at ++ drop (i + 1) l

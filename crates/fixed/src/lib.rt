@@ -1,5 +1,6 @@
 // The two tables that `edges` and `runs` book on: small ones, and full ones with every row taken.
 #![tactic(auto)]
+
 ghost use Rattle.std.specs.Prelude.{◌≡◌, cond, true, ◌≤◌, ◌<◌};
 ghost use Rattle.account.specs.Rows.{no_contract, no_underlying};
 ghost use Rattle.account.specs.Sound.{SoundTables, contract_allowed, underlying_allowed};

@@ -79,7 +79,7 @@ fn of_kind(r: &[u8], place: usize, kind: Kind) -> Reading
 }
 
 // The counts are judged as soon as they are there, before the figures are.
-#[tactic(auto, unfolding(crate::specs::Reading::counted, crate::specs::Reading::whole_at))]
+#[tactic(auto, using(entries::proofs::Limits::counts_inside, entries::proofs::Runs::total_fours), unfolding(crate::specs::Reading::counted, crate::specs::Reading::whole_at, entries::specs::Table::counts_fit))]
 fn day_end(r: &[u8], place: usize, size: u16) -> Reading
     ensures { result ≡ counted place r.now size }
 {

@@ -24,6 +24,7 @@ pub(crate) fn number8(r: &[u8], at: usize) -> u64
 }
 
 // As many numbers of 4 bytes as there are places for.
+#[tactic(auto, using(entries::proofs::Runs::read_one_more))]
 pub(crate) fn numbers4(r: &[u8], at: usize, into: &mut [u32])
     requires { at + 4 * length into.old ≤ length r.now }
     ensures { into.new ≡ numbers_at (replicate (length into.old) 4) r.now at }

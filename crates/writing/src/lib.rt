@@ -45,6 +45,7 @@ pub fn write(entry: Entry, figures: Figures, buffer: &mut [u8]) -> Written
     Written::Bytes(length)
 }
 
+#[tactic(auto, using(entries::proofs::Halves::sets_append, entries::proofs::LittleEndian::length_bytes))]
 fn put_head(buffer: &mut [u8], entry: Entry, size: u16)
     requires { length_of (kind_of entry) 0 0 ≤ length buffer.old }
     ensures { buffer.new ≡ sets buffer.old 0 (packed (2 ∷ 2 ∷ fields_of (kind_of entry)) (size ∷ code_of (kind_of entry) ∷ fields_in entry)) }
@@ -54,6 +55,7 @@ fn put_head(buffer: &mut [u8], entry: Entry, size: u16)
     put_fields(buffer, entry);
 }
 
+#[tactic(auto, using(entries::proofs::Halves::sets_append, entries::proofs::LittleEndian::length_bytes))]
 fn put_fields(buffer: &mut [u8], entry: Entry)
     requires { length_of (kind_of entry) 0 0 ≤ length buffer.old }
     ensures { buffer.new ≡ sets buffer.old 4 (packed (fields_of (kind_of entry)) (fields_in entry)) }
@@ -83,6 +85,7 @@ fn put_fields(buffer: &mut [u8], entry: Entry)
 }
 
 // Locks and unlocks have the same fields.
+#[tactic(auto, using(entries::proofs::Halves::sets_append, entries::proofs::LittleEndian::length_bytes))]
 fn put_pair(buffer: &mut [u8], underlying: u16, units: u32)
     requires { length_of Kind.Lock 0 0 ≤ length buffer.old }
     ensures { buffer.new ≡ sets buffer.old 4 (packed (fields_of Kind.Lock) (underlying ∷ units ∷ [])) }
@@ -91,6 +94,7 @@ fn put_pair(buffer: &mut [u8], underlying: u16, units: u32)
     put4(buffer, 6, units);
 }
 
+#[tactic(auto, using(entries::proofs::Halves::sets_append, entries::proofs::LittleEndian::length_bytes))]
 fn put_order(buffer: &mut [u8], order: Order)
     requires { length_of Kind.Order 0 0 ≤ length buffer.old }
     ensures { buffer.new ≡ sets buffer.old 4 (packed (fields_of Kind.Order) (fields_in (Entry.Order order))) }
@@ -103,6 +107,7 @@ fn put_order(buffer: &mut [u8], order: Order)
     put4(buffer, 16, order.price);
 }
 
+#[tactic(auto, using(entries::proofs::Halves::sets_append, entries::proofs::LittleEndian::length_bytes))]
 fn put_underlying(buffer: &mut [u8], row: Underlying)
     requires { length_of Kind.Underlying 0 0 ≤ length buffer.old }
     ensures { buffer.new ≡ sets buffer.old 4 (packed (fields_of Kind.Underlying) (fields_in (Entry.Underlying row))) }
@@ -115,6 +120,7 @@ fn put_underlying(buffer: &mut [u8], row: Underlying)
     put2(buffer, 14, row.daily);
 }
 
+#[tactic(auto, using(entries::proofs::Halves::sets_append, entries::proofs::LittleEndian::length_bytes))]
 fn put_contract(buffer: &mut [u8], row: Contract)
     requires { length_of Kind.Contract 0 0 ≤ length buffer.old }
     ensures { buffer.new ≡ sets buffer.old 4 (packed (fields_of Kind.Contract) (fields_in (Entry.Contract row))) }

@@ -29,6 +29,7 @@ pub(crate) fn put8(buffer: &mut [u8], at: usize, x: u64)
 }
 
 // Numbers of 4 bytes, one after the other.
+#[tactic(auto, using(entries::proofs::Runs::put_one_more))]
 pub(crate) fn puts4(buffer: &mut [u8], at: usize, xs: &[u32])
     requires { at + 4 * length xs.now ≤ length buffer.old }
     ensures { buffer.new ≡ sets buffer.old at (packed (replicate (length xs.now) 4) xs.now) }

@@ -1,2 +1,0 @@
--- Rows filled one after the other, which the proofs of both loops cite.
-pub mod Filling
