@@ -1,10 +1,9 @@
 -- What a run leaves at the start of both slices are its answers, so the lines of what is read there are the lines of the answers.
 use mathlib.Core.Path.{◌≡◌, ap, ap₂, ◌∙◌}
 use mathlib.Core.List.{List, map, ◌++◌}
-use Prim.Native.Nat.{ℕ, ◌≤◌}
-use native.Mathlib.Omega.{arith}
+use Prim.Native.Nat.{ℕ}
 use lib.IntN.{ℤ}
-use lib.ListN.{length, take, drop, length-append, length-map}
+use lib.ListN.{length, take, drop, length-map}
 use lib.Seq.{take_at}
 use Rattle.terms.specs.declared.verdict.Verdict.TheVariants.{Accepted}
 use Rattle.desk.specs.Runs.{Ran}
@@ -21,20 +20,9 @@ module _ {A : Type 0} (ran : Ran) (said : ℕ × ℤ → A) (lent now : List A) 
   firsts : take (length ran.answers) now ≡ map said ran.answers
   firsts = ap (take (length ran.answers)) is ∙ take_at (map said ran.answers) _ (length ran.answers) (length-map ran.answers said)
 
-  at_least : length ran.answers ≤ length now
-  at_least =
-      let whole = length-append (map said ran.answers) (drop (length ran.answers) lent) in
-      omega (arith, ap length is, whole, length-map ran.answers said)
-
 module _ (ran : Ran) (run : Run) (numbers₀ numbers : List ℕ) (sums₀ sums : List ℤ) (left : Leaves Accepted ran run numbers₀ numbers sums₀ sums) where
   count : run.answered ≡ length ran.answers
   count = ap (λ (r : Run). r.answered) left.0
-
-  pub room : (run.answered ≤ length numbers) × (run.answered ≤ length sums)
-  room = (
-    omega (arith, count, at_least ran (λ answer. answer.0) numbers₀ numbers left.1.0),
-    omega (arith, count, at_least ran (λ answer. answer.1) sums₀ sums left.1.1),
-  )
 
   pub lines_left : (number : ℕ) → lines_from number (take run.answered numbers) (take run.answered sums) ≡ lines_of number ran.answers
   lines_left number =

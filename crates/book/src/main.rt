@@ -1,5 +1,6 @@
 // The book program: a book from standard input, a line for each of its records to standard output.
 #![tactic(auto)]
+
 mod text;
 
 ghost use Rattle.std.specs.Prelude.{◌≡◌, ◌≤◌, length, take, drop};

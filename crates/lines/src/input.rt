@@ -13,6 +13,7 @@ pub const LENT: usize = 320;
 const ROOM: u64 = 1_152_921_504_606_846_976;
 
 // Where the line that starts at `from` ends.
+#[tactic(auto, using(crate::proofs::Before::before_none, crate::proofs::Before::before_end, crate::proofs::Before::before_other), unfolding(crate::specs::Ends::line_end))]
 pub fn line_end(s: &[u8], from: usize) -> usize
     ensures { (from ≤ result) × (result ≤ max from (length s.now)) × (result ≡ line_end s.now from) }
 {

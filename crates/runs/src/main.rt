@@ -1,6 +1,7 @@
 // Runs books and lists from lines of text into lent places, as many as a line says: each line of standard input is written again with
 // '=' and what came out.
 #![tactic(auto)]
+
 mod asked;
 mod changed;
 mod shown;
