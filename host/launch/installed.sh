@@ -16,7 +16,8 @@ crates_of() {
             for (at = 1; at <= count; at++) visit(deps[at])
             print name
         }
-        !/^#/ { needs[$1] = $2 }
+        # Behind the name may stand what kind of crate it is.
+        !/^#/ { sub(/ .*/, "", $1); needs[$1] = $2 }
         END { visit(ENVIRON["WANTED"]) }' "$root/crates.txt"
 }
 

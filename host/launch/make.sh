@@ -31,12 +31,15 @@ make_command() {
 }
 
 # mend CRATES..: rt does not miss what is gone of a library that it has a stamp for, and leaves where it stands what it was bringing in from
-# another tree when it was cut off.
+# another tree when it was cut off. By rt's own locks, so that another that is at work is not disturbed.
 mend() {
     for crate; do
-        out=$root/crates/$crate/out
-        [ -s "$out/rlib/$crate.rlib/format" ] || rm -rf "$out/rlib"
-        rm -rf "$out/rt-work-"*
+        (
+            flock 8
+            out=$root/crates/$crate/out
+            [ -s "$out/rlib/$crate.rlib/format" ] || rm -rf "$out/rlib"
+            rm -rf "$out/rt-work-"*
+        ) 8<"$root/crates/$crate"
     done
 }
 
@@ -67,9 +70,9 @@ run_as_told() {
 # make_program NAME FOLDER
 make_program() {
     crates=$(crates_of "$1")
-    mend $crates
     total=$(printf '%s\n' "$crates" | wc -l)
     say "the proved program $1 is built first, which can take some minutes ($total crates)"
+    mend $crates
     : >"$TMPDIR/proved"
     rm -f "$TMPDIR/ended"
     (

@@ -35,10 +35,12 @@ fn text_of(path: &Path) -> String {
 fn dependencies(list: &str) -> BTreeMap<String, Vec<String>> {
     let lines = list.lines().filter(|line| !line.starts_with('#'));
     let words = |text: &str| text.split_whitespace().map(String::from).collect();
-    lines
-        .filter_map(|line| line.split_once(':'))
-        .map(|(name, rest)| (name.to_string(), words(rest)))
-        .collect()
+    // Behind the name may stand what kind of crate it is.
+    let named = |line| {
+        let (head, rest): (&str, &str) = str::split_once(line, ':')?;
+        Some((head.split_whitespace().next()?.to_string(), words(rest)))
+    };
+    lines.filter_map(named).collect()
 }
 
 fn closure(lines: &BTreeMap<String, Vec<String>>, tops: &[&str]) -> Vec<String> {
