@@ -1,5 +1,5 @@
 -- A sum with one term changed is the sum with the new term instead of the old one, since the old term was in it. Where rows are counted only under a test, nothing moves where the test fails; and sums that move so move so together.
-use mathlib.Core.Path.{◌≡◌, refl, sym, ap}
+use mathlib.Core.Path.{◌≡◌, sym, ap}
 use mathlib.Core.Bool.{Bool, true, false, cond}
 use mathlib.Core.List.{List}
 use Prim.Native.Nat.{ℕ, ◌+◌, ◌^◌, ◌≤◌, ◌<◌}

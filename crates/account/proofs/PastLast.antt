@@ -1,5 +1,5 @@
 -- Past the last row nothing stands and there is none to set: so what is set only where its number is inside is set.
-use mathlib.Core.Path.{◌≡◌, sym, ap, subst, ◌∙◌}
+use mathlib.Core.Path.{◌≡◌, sym, subst}
 use mathlib.Core.List.{List}
 use Prim.Native.Nat.{ℕ, ◌≤◌}
 use lib.ListN.{length, get_or, set, get_or-eq_default}

@@ -1,5 +1,5 @@
 -- What is kept as we go (02, #107): for each underlying its totals, for each contract the closes that rest on it, and the free places. Each is a sum; where one row changes, the sum has the new term instead of the old one.
-use Rattle.std.specs.Prelude.{ℕ, ◌+◌, ◌-◌, ◌^◌, Bool, cond, ◌&&◌, eqb, ltb, get_or}
+use Rattle.std.specs.Prelude.{ℕ, ◌+◌, ◌-◌, ◌^◌, cond, eqb, ltb, get_or}
 use Rattle.terms.specs.Counts.{units_for}
 use Rattle.terms.specs.declared.count.Position.{Position}
 use Rattle.terms.specs.declared.kind.OrderKind.TheVariants.{BuyOpen, SellClose, BuyClose, CoveredOpen, CoveredClose}

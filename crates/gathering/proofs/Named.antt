@@ -1,5 +1,5 @@
 -- The order that a number names, among the places: 0 is at no place, since it is no order's number, and any other number is at the places that have it.
-use Rattle.std.proofs.Common.{◌≡◌, ℕ, Bool, true, false, List, get_or, refl, sym, ap}
+use Rattle.std.proofs.Common.{◌≡◌, ℕ, Bool, true, false, List, get_or, refl, ap}
 use mathlib.Core.Path.{◌∙◌}
 use mathlib.Core.Bool.{not, ◌&&◌, and-false}
 use borrow.Author.Tests.{eq-eqb, ne_eqb}

@@ -14,7 +14,6 @@ use Rattle.entries.specs.Entries.{kind_of}
 use Rattle.entries.specs.Table.{code_of}
 use Rattle.entries.specs.declared.entry.Contract as Contracts·of
 use Rattle.entries.specs.declared.entry.Entry.{Entry}
-use Rattle.entries.specs.declared.entry.Entry.TheVariants.{Underlying, Contract}
 use Rattle.entries.specs.declared.entry.Figures.{Figures}
 use Rattle.entries.specs.declared.entry.Underlying as Underlyings·of
 use Rattle.terms.specs.Listed.{every}

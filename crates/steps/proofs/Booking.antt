@@ -10,7 +10,7 @@ use Rattle.entries.proofs.EachKind.{by_day_end}
 use Rattle.account.specs.Changes.{applied, decided, ending, verdict_in}
 use Rattle.account.specs.Room.{Movable}
 use Rattle.account.specs.DayEnd.{day_end_verdict, day_ended, figures_installed}
-use Rattle.account.specs.Seen.{SeenOf, Wherever}
+use Rattle.account.specs.Seen.{Wherever}
 use Rattle.account.specs.Sound.{Sound}
 use Rattle.account.specs.Steps.{account_after, change_of, outcome, refusal_of, step, tables_after}
 use Rattle.account.specs.declared.account.Account.{Account}

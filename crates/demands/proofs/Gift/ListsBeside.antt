@@ -13,7 +13,6 @@ use Rattle.terms.proofs.Ranges.{both_hold, first_holds, inside, within}
 use Rattle.entries.specs.Entries.{kind_of}
 use Rattle.entries.specs.Table.{code_of}
 use Rattle.entries.specs.declared.entry.Entry.{Entry}
-use Rattle.entries.specs.declared.entry.Entry.TheVariants.{Underlying}
 use Rattle.entries.specs.declared.entry.Figures.{Figures}
 use Rattle.entries.specs.declared.entry.Underlying as Underlyings·of
 use Rattle.reading.specs.Reading.{read_at}

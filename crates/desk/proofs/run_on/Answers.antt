@@ -1,9 +1,8 @@
 -- `run_on` meets its contract: what the slices hold and what is still to be answered are together the whole run, turn by turn, and at the end nothing is left to answer. In a turn the rows read are those that the record sees, and however its ruling is booked, the book is the one after it.
-use Rattle.std.proofs.Common.{◌≡◌, ℕ, ◌+◌, ◌-◌, ◌≤◌, ◌<◌, List, length, refl, sym, ap, subst, arith, rules}
+use Rattle.std.proofs.Common.{◌≡◌, ℕ, ◌+◌, ◌-◌, ◌≤◌, ◌<◌, length, refl, sym, ap, subst, arith}
 use mathlib.Core.Path.{◌∙◌}
 use mathlib.Core.Bool.{true, false}
 use mathlib.Core.Logic.{◌⊎◌, ⊎_elim, inl, inr}
-use lib.IntN.{ℤ}
 use lib.ListN.{set}
 use mir.Syntax.{w64}
 use mir.Val.{of_z, to_z}
@@ -28,7 +27,7 @@ use Rattle.set_up.specs.declared.stages.Book.{Book}
 use Rattle.desk.specs.Runs.{Answered, answer_to, ended, places_in, run_from}
 use Rattle.desk.proofs.Answered.{answer_sound}
 use Rattle.desk.proofs.Ruled.{book_by, moves_on, rests_by, ruled_answer, ruling_by, stays_ends}
-use Rattle.desk.proofs.Turns.{Stands, at_end, done_so, goes_on, goes_so, nothing_yet, numbers_left_lem, rest, same_lengths, stopped_so, stops, sums_left_lem, turned}
+use Rattle.desk.proofs.Turns.{Stands, at_end, done_so, goes_on, goes_so, numbers_left_lem, rest, same_lengths, stopped_so, stops, sums_left_lem, turned}
 use Rattle.desk.proofs.run_on.Invariants.{book}
 use Rattle.desk.proofs.run_on.Goals as goal
 use Rattle.desk.proofs.run_on.Goals.{After-available_in, After-number, After-loop-k, in-Changes, in-Found, in-Refused, in-Refused-ruling, in-Renews}

@@ -1,9 +1,9 @@
 -- `list_verdict` meets its contract: with no contract or too many rows nothing else is tested, and otherwise every row and the cash are.
-use Rattle.std.proofs.Common.{◌≡◌, ℕ, ◌≤◌, refl, sym, ap, arith, rules}
+use Rattle.std.proofs.Common.{◌≡◌, ℕ, ◌≤◌, refl, sym, ap, arith}
 use mathlib.Core.Path.{◌∙◌}
 use mathlib.Core.Bool.{Bool, true, false, not, ◌&&◌, ◌||◌}
 use native.Mathlib.Decide.{dec_lt}
-use borrow.Author.Tests.{le-leb, le-ltb, leb-true, lt-leb, lt-ltb}
+use borrow.Author.Tests.{le-leb, le-ltb, lt-leb, lt-ltb}
 use lib.Dec.{leb, ltb}
 use Rattle.terms.specs.Ranges.{range_of, ◌∈◌}
 use Rattle.terms.specs.declared.measure.Measure.TheVariants.{OpeningCash}

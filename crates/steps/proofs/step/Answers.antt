@@ -1,5 +1,5 @@
 -- `step` meets its contract: an entry is decided by what it sees and what is decided is booked, which is the step; a decision on a sound account rests on what booking asks.
-use Rattle.std.proofs.Common.{◌≡◌, sym, ap, subst}
+use Rattle.std.proofs.Common.{sym, ap, subst}
 use mathlib.Core.Path.{◌∙◌}
 use Rattle.account.specs.Seen.{Sees}
 use Rattle.steps.specs.Booked.{Rests, booked_by}

@@ -1,5 +1,5 @@
 -- `verdict` meets its contract: after each column the rest of the walk still gives the verdict, and the walk by numbers is the definition's.
-use Rattle.std.proofs.Common.{◌≡◌, ℕ, ◌+◌, ◌-◌, ◌*◌, List, map, sym, ap, arith}
+use Rattle.std.proofs.Common.{◌≡◌, ℕ, ◌-◌, ◌*◌, List, map, sym, ap, arith}
 use mathlib.Core.Path.{◌∙◌}
 use mathlib.Core.Bool.{Bool}
 use Rattle.terms.specs.Codes.{kind_code}

@@ -6,7 +6,6 @@ use Rattle.terms.specs.declared.count.Position.{Position}
 use Rattle.account.specs.Changes.{applied, written}
 use Rattle.account.specs.Rows.{free, no_position, order, position}
 use Rattle.account.specs.Running.{closing_moved, closing_of, free_moved, no_running, ordered, running_moved, running_of}
-use Rattle.account.specs.Room.{RunningMoves}
 use Rattle.account.specs.declared.account.Account.{Account}
 use Rattle.account.specs.declared.account.Resting.{Resting}
 use Rattle.account.specs.declared.judged.Change.{Change}
