@@ -3,6 +3,11 @@
 # rounds are run and nothing is drawn, to see that the answers agree.
 set -eu
 cd "$(dirname "$0")/.."
-if [ "$(uname -m)" = x86_64 ] && command -v rt >/dev/null; then rt staticlib archive; fi
+if [ "$(uname -m)" = x86_64 ] && command -v rt >/dev/null; then
+    said=$(cd crates/archive_c && rt lib 2>&1) || {
+        printf '%s\n' "$said"
+        exit 1
+    }
+fi
 PROFILE=speed sh tests/cargo.sh build --package bench
 exec host/target/speed/bench "${1:-docs/performance.svg}"

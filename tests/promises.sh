@@ -6,8 +6,8 @@ export LC_ALL=C
 work=$(mktemp -d)
 trap 'rm -rf "$work"' EXIT
 
-sources() { find crates \( -name '*.antt' -o -name '*.rt' \); }
-edits() { find crates -name '*.edit' -exec basename {} .edit \; | sort -u; }
+sources() { find crates -path '*/out' -prune -o \( -name '*.antt' -o -name '*.rt' \) -print; }
+edits() { find crates -path '*/out' -prune -o -name '*.edit' -exec basename {} .edit \; | sort -u; }
 
 # each word of the sources, with the number of files that have it
 sources | tr '\n' '\0' | xargs -0 awk '{
@@ -27,16 +27,16 @@ grep -v -e '/' -e '\.antt$' -e ':$' "$work/quoted" | sed 's/.*:://' | sort -u >"
     edits
 } | sort -u | comm -23 "$work/named" - | sed 's/^/named, and not there: /' >"$work/wrong"
 while read -r path; do
-    [ -n "$(find . -path "*/$path" ! -path './target/*' | head -n 1)" ] || echo "named, and not there: $path"
+    [ -n "$(find . -path '*/out' -prune -o -path "*/$path" ! -path '*/target/*' -print | head -n 1)" ] || echo "named, and not there: $path"
 done <"$work/paths" >>"$work/wrong"
 edits | comm -23 - "$work/named" | sed 's/^/a wrong edit that is not named: /' >>"$work/wrong"
 
 sed -n 's/ 1$//p' "$work/words" | sort >"$work/once"
-find crates -path '*/proofs/*.antt' ! -name Proof.antt -exec awk '
+sources | grep '/proofs/.*\.antt$' | grep -v -e '/Proof\.antt$' -e '/Answers\.antt$' -e '/Invariants\.antt$' | tr '\n' '\0' | xargs -0 awk '
     FNR == 1 || /^$/ { fields = 0 }
     /^ *(pub )?(record|data) / { fields = 1 }
     !fields && /^ *pub [^ ]+ :/ { print $2 }
-' {} + | sort -u | comm -12 - "$work/once" | comm -23 - "$work/named" | sed 's/^/a theorem that is neither cited nor promised: /' >>"$work/wrong"
+' | sort -u | comm -12 - "$work/once" | comm -23 - "$work/named" | sed 's/^/a theorem that is neither cited nor promised: /' >>"$work/wrong"
 
 if [ -s "$work/wrong" ]; then
     cat "$work/wrong"

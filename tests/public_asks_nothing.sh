@@ -10,13 +10,13 @@ asks=$(awk '
         sound = "Sound tables account|SoundTables tables|SoundSheet sheet|SoundPayout sheet waiting|SoundBook book"
         rests = "FiguresTaken tables figures|Rests tables account figures decision|RenewsOn book figures renewal"
         seen = "SeenOf (entry|\\(Entry\\.[A-Za-z]+( [a-z]+)*\\)) seen|NumberSees seen|BookSeen stage entry seen"
-        room = "Postable (sheet|\\(now sheet\\)) posting|Movable self change"
-        may = "^ *requires \\{ ⌜ ((" sound ")( × (" rests "))?|" seen "|" room ") ⌝ \\}$"
+        room = "Postable (sheet|sheet\\.old) posting|Movable self change"
+        may = "^ *requires ([a-z_]+ )?\\{ ((" sound ")( × (" rests "))?|" seen "|" room ") \\}$"
     }
     FNR == 1 { public = 0; step = FILENAME ~ /^crates\/(account|postings|money|gathering|orders|resting|fills|transfers|day_end|steps|set_up|desk|edges)\// }
     /^ *(pub(\([a-z]+\))? )?(extern "C" )?fn / { public = /^ *pub / }
     public && /^ *requires/ && !(step && $0 ~ may) { print FILENAME ":" FNR ": " $0 }
-' $(find crates -name '*.rt'))
+' $(find crates -path '*/out' -prune -o -name '*.rt' -print))
 if [ -n "$asks" ]; then
     printf 'a public function with a requires:\n%s\n' "$asks"
     exit 1

@@ -13,7 +13,7 @@ trap : PIPE
 # A hook of git would have its own folder taken for ours.
 unset GIT_DIR GIT_WORK_TREE GIT_INDEX_FILE
 
-# One lock for all programs: rt keeps what it has proved in files that two of it would break for each other.
+# One lock for all programs: most crates are proved for either, and what is missing of one is taken away before it is built again.
 case $thing in
 command) lock=$store/command.lock what="the command" busy="the command is being built by another use" ;;
 *) lock=$store/proofs.lock what="the proved program $thing" busy="a proof is going on in this tree" ;;

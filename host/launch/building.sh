@@ -17,7 +17,10 @@ can_build() {
     else
         command -v rt >/dev/null || refuse "there is no rt here, the Rattle toolchain, which proves and builds the program $1"
         why=$(sh "$root/host/launch/start.sh" 2>&1 >/dev/null) || refuse "$why"
-        can_write "$1" "$root/target" "$root/target/rlib" "$root/target/stamp" "$root/target/log" "$root/target/bin"
+        for crate in $(crates_of "$1"); do
+            out=$root/crates/$crate/out
+            can_write "$1" "$out" "$out/rlib" "$out/incremental"
+        done
     fi
     can_write "$1" "$store" "$store/$1" "$store/command.lock" "$store/proofs.lock"
 }
@@ -43,8 +46,6 @@ build_all() {
     # Where nobody reads what is said any more, the build goes on all the same.
     trap : PIPE
     scratch=$(mktemp -d 2>/dev/null) || refuse "no temporary folder can be made in ${TMPDIR:-/tmp}, and $(named "$1") is not built"
-    # rt runs a program as nobody, below this folder.
-    chmod 711 "$scratch"
     for thing; do can_build "$thing"; done
     for thing; do build "$thing"; done
     rm -rf "$scratch"
@@ -78,7 +79,7 @@ stop() {
     exit "$2"
 }
 
-# end_group NUMBER: until no process of it is left. One that was started just now is no group yet.
+# end_group NUMBER: until no process of its session is left. One that was started just now is no group yet.
 end_group() {
     kill -s TERM -- "-$1" 2>/dev/null || kill -s TERM "$1" 2>/dev/null || :
     tries=100
@@ -89,10 +90,11 @@ end_group() {
     done
 }
 
-# lives NUMBER: whether a process of the group does. One that has ended and is not yet reaped, for which init may take its time, does not.
+# lives NUMBER: whether a process of the session does, in which rt has groups of its own that end with it. One that has ended and is not yet
+# reaped, for which init may take its time, does not.
 lives() {
-    cat /proc/[0-9]*/stat 2>/dev/null | awk -v group="$1" '
+    cat /proc/[0-9]*/stat 2>/dev/null | awk -v session="$1" '
         { number = $1; sub(/^.*\) /, "") }
-        (number == group || $3 == group) && $1 != "Z" { found = 1 }
+        (number == session || $4 == session) && $1 != "Z" { found = 1 }
         END { exit !found }'
 }

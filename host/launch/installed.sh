@@ -1,7 +1,7 @@
 # Where the command and the proved programs are installed, and whether what stands there is what the sources say. Every use asks this, so
 # that nobody else has to be asked; it wants few processes. Sourced, with `root` and `refuse` given.
 
-# Not under target/, which the gate removes.
+# Not in a crate's out/, which the gate takes away.
 store=$root/.ravundesk
 machine=$(uname -m)
 command -v sha256sum >/dev/null || refuse "there is no sha256sum here, which tells whether the sources have changed (Debian: coreutils)"
@@ -16,7 +16,8 @@ crates_of() {
             for (at = 1; at <= count; at++) visit(deps[at])
             print name
         }
-        !/^#/ { needs[$1] = $2 }
+        # Behind the name may stand what kind of crate it is.
+        !/^#/ { sub(/ .*/, "", $1); needs[$1] = $2 }
         END { visit(ENVIRON["WANTED"]) }' "$root/crates.txt"
 }
 

@@ -30,27 +30,54 @@ make_command() {
     result="the command is built"
 }
 
-# mend CRATES..: rt can't go on from a library whose writing was cut off, and does not miss one that it has a stamp for. What has no stamp
-# is proved again in any case.
+# mend CRATES..: rt does not miss what is gone of a library that it has a stamp for, and leaves where it stands what it was bringing in from
+# another tree when it was cut off. By rt's own locks, so that another that is at work is not disturbed.
 mend() {
     for crate; do
-        if [ ! -e "$root/target/bin/$crate" ] && [ ! -e "$root/target/rlib/$crate.rlib" ]; then rm -f "$root/target/stamp/$crate"; fi
-        [ -e "$root/target/stamp/$crate" ] || rm -rf "$root/target/rlib/$crate.rlib" "$root/target/rlib/$crate.rlib.tmp-"*
+        (
+            flock 8
+            out=$root/crates/$crate/out
+            [ -s "$out/rlib/$crate.rlib/format" ] || rm -rf "$out/rlib"
+            rm -rf "$out/rt-work-"*
+        ) 8<"$root/crates/$crate"
     done
+}
+
+# prove CRATES..: each behind those that it stands on. A line in `proved` for each that is: its name, and the seconds that it took where it was
+# not proved before.
+prove() {
+    for crate; do
+        since=$(date +%s)
+        cd "$root/crates/$crate" || return
+        if [ -e src/main.rt ]; then
+            run_as_told || return
+        else
+            rt lib </dev/null >"$TMPDIR/said" 2>&1 || return
+        fi
+        seconds=''
+        if grep -q '^logic=proved ' "$TMPDIR/said"; then seconds=$(($(date +%s) - since)); fi
+        echo "$crate $seconds" >>"$TMPDIR/proved"
+    done
+}
+
+# run_as_told: builds the program and runs it on what its crate has for it, to see that it prints what the crate says.
+run_as_told() {
+    input=/dev/null
+    [ ! -e stdin ] || input=stdin
+    rt run <"$input" >"$TMPDIR/printed" 2>"$TMPDIR/said" && cmp "$TMPDIR/printed" stdout >>"$TMPDIR/said" 2>&1
 }
 
 # make_program NAME FOLDER
 make_program() {
     crates=$(crates_of "$1")
-    mend $crates
     total=$(printf '%s\n' "$crates" | wc -l)
     say "the proved program $1 is built first, which can take some minutes ($total crates)"
-    : >"$TMPDIR/said"
+    mend $crates
+    : >"$TMPDIR/proved"
     rm -f "$TMPDIR/ended"
     (
-        cd "$root"
         ended=0
-        rt check "$1" </dev/null >"$TMPDIR/said" 2>&1 || ended=$?
+        prove $crates || ended=$?
         echo "$ended" >"$TMPDIR/ended"
     ) &
     follow "$1" "$total"
@@ -58,7 +85,7 @@ make_program() {
         cat "$TMPDIR/said" >&2
         refuse "the program $1 is not proved, so it is not installed"
     }
-    cp "$root/target/bin/$1" "$2/$1"
+    cp "$root/crates/$1/out/$1" "$2/$1"
     sh "$root/host/launch/start.sh" >"$2/start"
     { commit_line && echo "toolchain $(rt version)"; } >"$2/built"
     result="$1 is proved"

@@ -1,4 +1,4 @@
-# How far a proof is, told from what rt says as it goes: a line for each crate that was proved, or a bar where standard error is a terminal.
+# How far a proof is, told crate by crate as they are done: a line for each that was proved, or a bar where standard error is a terminal.
 # Sourced by build.sh.
 
 # as_time SECONDS
@@ -6,7 +6,7 @@ as_time() {
     if [ "$1" -lt 60 ]; then echo "$1 s"; else echo "$(($1 / 60)) min $(($1 % 60)) s"; fi
 }
 
-# draw_bar NAME TOTAL: over the one before. What rt proves at the moment it does not say, so the time shows that it goes on.
+# draw_bar NAME TOTAL: over the one before. What rt proves at the moment is not told, so the time shows that it goes on.
 draw_bar() {
     bar=$(printf '%*s' $((count * 20 / $2)) '' | tr ' ' '#')
     printf '\rravundesk: %s [%-20s] %s of %s crates, %s  ' "$1" "$bar" "$count" "$2" "$(as_time $(($(date +%s) - began)))" >&2
@@ -14,17 +14,12 @@ draw_bar() {
 
 # count_line LINE TOTAL: a crate that was proved before counts, and there is nothing to say of it.
 count_line() {
-    case $1 in
-    "rt: "*" proved (unchanged"*) count=$((count + 1)) ;;
-    "rt: "*" proved ("[0-9]*" s)")
-        count=$((count + 1)) crate=${1#rt: } seconds=${1##*"("}
-        [ -t 2 ] || say "${crate%% *} proved in ${seconds%")"}; $count of $2, $(($2 - count)) left"
-        ;;
-    esac
+    count=$((count + 1)) crate=${1%% *} seconds=${1#* }
+    [ -z "$seconds" ] || [ -t 2 ] || say "$crate proved in $seconds s; $count of $2, $(($2 - count)) left"
 }
 
-# follow NAME TOTAL: until rt, which was started last, has ended or is gone. That is looked for before its lines are read, so that none of
-# them is missed.
+# follow NAME TOTAL: until the proving, which was started last, has ended or is gone. That is looked for before its lines are read, so that
+# none of them is missed.
 follow() {
     count=0 part='' over=''
     while [ -z "$over" ]; do
@@ -36,6 +31,6 @@ follow() {
         part=$part$line
         [ ! -t 2 ] || draw_bar "$1" "$2"
         [ -n "$over" ] || sleep 0.5
-    done <"$TMPDIR/said"
+    done <"$TMPDIR/proved"
     [ ! -t 2 ] || echo >&2
 }

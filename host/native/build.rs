@@ -35,10 +35,12 @@ fn text_of(path: &Path) -> String {
 fn dependencies(list: &str) -> BTreeMap<String, Vec<String>> {
     let lines = list.lines().filter(|line| !line.starts_with('#'));
     let words = |text: &str| text.split_whitespace().map(String::from).collect();
-    lines
-        .filter_map(|line| line.split_once(':'))
-        .map(|(name, rest)| (name.to_string(), words(rest)))
-        .collect()
+    // Behind the name may stand what kind of crate it is.
+    let named = |line| {
+        let (head, rest): (&str, &str) = str::split_once(line, ':')?;
+        Some((head.split_whitespace().next()?.to_string(), words(rest)))
+    };
+    lines.filter_map(named).collect()
 }
 
 fn closure(lines: &BTreeMap<String, Vec<String>>, tops: &[&str]) -> Vec<String> {
@@ -76,26 +78,46 @@ fn write_crate(source: &Path, module: &Path, name: &str, needs: &[String]) {
 fn in_rust(text: &str, name: &str, needs: &[String]) -> String {
     let mut rust = format!("use crate::{{{}}};\n", needs.join(", "));
     let own = format!("crate::{name}::");
-    for line in text.lines().filter(|line| !is_proof(line)) {
-        if declares_type(line) {
-            // Values are copied freely in the crates' language.
-            rust += "#[derive(Clone, Copy)]\n";
-        }
+    for line in without_proofs(text) {
         rust += &without_let_else(&line.replace("crate::", &own));
         rust += "\n";
     }
     rust
 }
 
-fn is_proof(line: &str) -> bool {
-    let proof = ["ghost use ", "requires ", "ensures "];
-    proof.iter().any(|word| line.trim_start().starts_with(word))
+/// The lines of what runs: all but contracts, ghost imports and attributes for the prover, which may go over several lines.
+fn without_proofs(text: &str) -> Vec<&str> {
+    let mut within = false;
+    let mut depth = 0;
+    let runs = |line: &&str| {
+        if !within && !is_proof(line) {
+            return true;
+        }
+        depth += opened(line);
+        within = depth != 0 || !line.ends_with(['}', ']', ';']);
+        false
+    };
+    text.lines().filter(runs).collect()
 }
 
-fn declares_type(line: &str) -> bool {
-    let words = line.split_whitespace();
-    let mut words = words.skip_while(|word| word.starts_with("pub"));
-    matches!(words.next(), Some("struct" | "enum"))
+fn is_proof(line: &str) -> bool {
+    let line = line.trim_start();
+    let attributes = ["#[tactic(", "#![tactic(", "#[derive(Drop)]"];
+    let proof = ["ghost use", "requires", "ensures"];
+    attributes.iter().any(|start| line.starts_with(start))
+        || proof.iter().any(|words| {
+            let rest = line.strip_prefix(words);
+            rest.map_or(false, |rest| rest.is_empty() || rest.starts_with(' '))
+        })
+}
+
+/// How many brackets a line opens and does not close.
+fn opened(line: &str) -> i32 {
+    line.chars().fold(0, |depth, sign| match sign {
+        '(' | '[' | '{' => depth + 1,
+        ')' | ']' | '}' => depth - 1,
+        _ => depth,
+    })
 }
 
 /// `let PATTERN = VALUE else {` with `if let`, since Rust 1.63 has no `let .. else`.

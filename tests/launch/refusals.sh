@@ -47,15 +47,18 @@ missing_tools() {
     other_machine
 }
 
-# A kit that has nothing for the machine, and one that has a prover for it and no emulator.
+# A machine that no program is for, and a kit that has nothing to start one with.
 other_machine() {
-    mkdir -p "$place/machine" "$place/kit/on/riscv64/bin"
+    mkdir -p "$place/machine" "$place/kit"
     printf '#!/bin/sh\necho riscv64\n' >"$place/machine/uname"
-    printf '#!/bin/sh\n' >"$place/kit/on/riscv64/bin/rattle"
-    chmod +x "$place/machine/uname" "$place/kit/on/riscv64/bin/rattle"
-    line="this machine is riscv64, and the Rattle kit here has no emulator for it: proved programs are for x86-64"
-    refuses "$line" env PATH="$place/machine:$PATH" "$small/ravundesk" book
-    refuses "$line" env PATH="$place/machine:$PATH" RATTLE_HOME="$place/kit" "$small/ravundesk" book
+    printf '#!/bin/sh\necho "%s/START-HERE.md"\n' "$place/kit" >"$place/kit/rt"
+    chmod +x "$place/machine/uname" "$place/kit/rt"
+    refuses "this machine is riscv64, and the Rattle kit here has no emulator for it: proved programs are for x86-64" \
+        env PATH="$place/machine:$PATH" "$small/ravundesk" book
+    mv "$small/.ravundesk/book" "$place/book"
+    refuses "the Rattle kit that rt belongs to has no loader for proved programs" \
+        env PATH="$place/kit:$PATH" "$small/ravundesk" book
+    mv "$place/book" "$small/.ravundesk/book"
 }
 
 # From another folder, through a link, and with a program whose loader is gone.
@@ -75,7 +78,7 @@ other_places() {
 failed_builds() {
     cp -a "$small/crates/first/src/lib.rt" "$small/host/command/src/main.rs" "$place"
     echo 'pub fn eight() -> usize { seven }' >>"$small/crates/first/src/lib.rt"
-    fails "ravundesk: the program book is not proved, so it is not installed" 'rt: first NOT PROVED'
+    fails "ravundesk: the program book is not proved, so it is not installed" '^src/lib.rt:[0-9:]* error'
     cp -a "$place/lib.rt" "$small/crates/first/src"
     echo 'fn main() {}' >>"$small/host/command/src/main.rs"
     fails "ravundesk: the command can't be built" '^error'
@@ -117,7 +120,7 @@ as_another_user() {
     nobody='setpriv --reuid=65534 --regid=65534 --clear-groups'
     prints_as_first $nobody
     mv "$small/.ravundesk/book" "$place/book"
-    refuses "$small/target can't be written, and the proved program book is not built" $nobody "$small/ravundesk" book
+    refuses "$small/crates/first/out can't be written, and the proved program book is not built" $nobody "$small/ravundesk" book
     chmod 000 "$small/crates/first/src/lib.rt"
     refuses "the sources can't be read: sha256sum: crates/first/src/lib.rt: Permission denied" $nobody "$small/ravundesk" book
     chmod 644 "$small/crates/first/src/lib.rt"

@@ -12,9 +12,12 @@ make_small_tree() {
 small_crates() {
     for crate in first second book expiry; do mkdir -p "$small/crates/$crate/src"; done
     printf '# A small tree.\nfirst:\nsecond: first\nbook: second io\nexpiry: first io\n' >"$small/crates.txt"
-    echo 'pub fn seven() -> usize { 7 }' >"$small/crates/first/src/lib.rt"
-    echo 'pub fn again() -> usize { first::seven() }' >"$small/crates/second/src/lib.rt"
+    # In no other tree, of which rt would take what was proved there.
+    printf '// %s\n#![tactic(auto)]\n\npub fn seven() -> usize {\n    7\n}\n' "$place" >"$small/crates/first/src/lib.rt"
+    printf '#![tactic(auto)]\n\npub fn again() -> usize {\n    first::seven()\n}\n' >"$small/crates/second/src/lib.rt"
     cat >"$small/crates/book/src/main.rt" <<'END'
+#![tactic(auto)]
+
 fn main() {
     let n = second::again();
     let words = [b'p', b'r', b'o', b'v', b'e', b'd', b'\n'];

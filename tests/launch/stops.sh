@@ -73,7 +73,7 @@ waiting_stops() {
     stopped_by TERM "$begun" 143
 }
 
-# rt ends in the midst of a library; another that it was replacing is cut off by hand, for which the moment is too short to meet.
+# rt ends in the midst of a library; another of which a part is gone is cut off by hand, for which the moment is too short to meet.
 proof_stops() {
     echo '// More.' >>"$small/crates/first/src/lib.rt"
     begin book
@@ -83,13 +83,19 @@ proof_stops() {
     once 'grep -q "program book is built first" "$place/err"'
     sleep 1
     stopped_by TERM "$begun" 143
-    rm -rf "$small/target/rlib/second.rlib/format"
     answers "$small/ravundesk" book a "b  c"
     cmp "$place/out" "$place/first" || fail "other lines after a proof that was stopped"
     said 'first proved in' 0
     said 'second proved in [0-9]* s; 2 of 3, 1 left' 1
     said 'book proved in [0-9]* s; 3 of 3, 0 left' 1
     said 'waits' 0
-    [ -z "$(find "$small/target" -name '*.tmp-*')" ] || fail "half a library is left"
+    [ -z "$(find "$small/crates" -path '*/out/rt-work-*')" ] || fail "half a library is left"
+    rm "$small/crates/second/out/rlib/second.rlib/format"
+    echo '// More.' >>"$small/crates/book/src/main.rt"
+    answers "$small/ravundesk" book a "b  c"
+    cmp "$place/out" "$place/first" || fail "other lines after a library was cut off"
+    said 'first proved in' 0
+    said 'second proved in [0-9]* s; 2 of 3, 1 left' 1
+    said 'book proved in [0-9]* s; 3 of 3, 0 left' 1
     prints_as_first
 }

@@ -1,5 +1,6 @@
 // The account: what it holds, what an entry is judged by, what is decided, and the one function that writes what an accepted entry changes.
 #![tactic(auto)]
+
 mod account;
 mod judged;
 mod running;

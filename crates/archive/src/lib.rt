@@ -1,5 +1,6 @@
 // The desk for programs in other languages: running a book. The crate `archive_c` exports it from a static library.
 #![tactic(auto)]
+
 ghost use Rattle.std.specs.Prelude.{◌≡◌, length};
 ghost use Rattle.desk.specs.Runs.{book_run, numbers_left, places_in, sums_left};
 

@@ -1,5 +1,6 @@
 // What programs in C and Rust link: the functions of `archive`, under the names that the static library gives them.
 #![tactic(auto)]
+
 ghost use Rattle.std.specs.Prelude.{◌≡◌, length};
 ghost use Rattle.desk.specs.Runs.{book_run, numbers_left, places_in, sums_left};
 

@@ -1,5 +1,6 @@
 // The desk: a list and a book, run from their bytes, the answers written into places that the caller lends.
 #![tactic(auto)]
+
 mod available;
 
 ghost use Rattle.std.specs.Prelude.{◌≡◌};

@@ -1,5 +1,6 @@
 // Gathering: what an entry sees of tables and account, and what an order is judged by.
 #![tactic(auto)]
+
 mod facts;
 mod place;
 mod seen;

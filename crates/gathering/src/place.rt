@@ -4,11 +4,15 @@ ghost use Rattle.gathering.specs.Places.{place_among};
 
 use account::Resting;
 
+// No order has this number, though a free place holds it.
+const NO_ORDER: u32 = 0;
+
 // The order's place, or 32 where none has the number. A free place holds zero, which names no order: an entry that names none is not looked for.
+#[tactic(auto, using(crate::proofs::Named::none_named))]
 pub fn place_of(orders: [Resting; terms::PLACES], number: u32) -> usize
     ensures { result ≡ place_among orders number }
 {
-    if number == 0 {
+    if number == NO_ORDER {
         return terms::PLACES;
     }
     let mut i = 0;

@@ -1,5 +1,6 @@
 // Money: what one contract costs at the figures in force, what is available, and what is within it.
 #![tactic(auto)]
+
 mod hold;
 mod reach;
 

@@ -1,5 +1,6 @@
 // An order: its facts gathered, the verdict on them, and what an accepted one changes.
 #![tactic(auto)]
+
 mod change;
 mod checks;
 

@@ -1,5 +1,6 @@
 // Postings: what moves money. The sheet is lent to each, which updates it where it stands.
 #![tactic(auto)]
+
 ghost use Rattle.std.specs.Prelude.{◌≡◌};
 ghost use Rattle.postings.specs.Postings.{posted};
 ghost use Rattle.postings.specs.Room.{Postable};

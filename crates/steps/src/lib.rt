@@ -1,5 +1,6 @@
 // One step for every entry: it is decided on what it sees of tables and account, and what is decided is booked.
 #![tactic(auto)]
+
 ghost use Rattle.std.specs.Prelude.{◌≡◌};
 ghost use Rattle.account.specs.Seen.{SeenOf, Wherever};
 ghost use Rattle.account.specs.Sound.{Sound};

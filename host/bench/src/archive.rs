@@ -1,4 +1,4 @@
-//! The archive that `rt staticlib archive` writes: the crates' code as the prover's own compiler makes it.
+//! The archive that `rt lib` writes in `crates/archive_c`: the crates' code as the toolchain compiles it.
 
 use crate::versions::{Answers, InHand, Version};
 
@@ -44,7 +44,7 @@ fn after(before: &[u8]) -> Box<dyn InHand> {
 
 pub const VERSION: Version = Version {
     name: "archive",
-    manner: "the proved program's own code, from `rt staticlib`",
+    manner: "the proved program's own code, from `rt lib`",
     colour: "#7a4fa3",
     after,
 };

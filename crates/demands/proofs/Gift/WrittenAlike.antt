@@ -55,6 +55,9 @@ module _ (X : ℕ) where
   alike_from k before before' b [] [] level carried carried' alike =
       let ended = no_byte (before ++ []) (length before) b k (omega (arith, length-append before [])) in
       subst (λ (r : Ran). ReadAlike X (read_at (before ++ []) r.place) (read_at (before' ++ []) r.place)) (sym ended) (λ entry len found. absurd (end_unread before entry len found))
+  alike_from k before before' b [] (e' ∷ es') level carried carried' alike = elim alike [ ]
+  alike_from zero before before' b (e ∷ es) [] level carried carried' alike = elim alike [ ]
+  alike_from (suc k) before before' b (e ∷ es) [] level carried carried' alike = elim alike [ ]
   alike_from zero before before' b (e ∷ es) (e' ∷ es') level carried carried' alike =
       let second = ap (read_at (before' ++ records_of (e' ∷ es'))) (sym level) ∙ carried_read before' e' es' carried'.0 in
       rw (carried_read before e es carried.0, second) (read_alike e e' alike.0)
@@ -68,6 +71,8 @@ module _ (X : ℕ) where
   alike_size : (entries entries' : List (Entry × Figures)) → Each (λ e. Carried e.0 e.1) entries → Each (λ e. Carried e.0 e.1) entries'
       → EachPair (AlikeRecord X) entries entries' → length (records_of entries') ≡ length (records_of entries)
   alike_size [] [] carried carried' alike = refl
+  alike_size [] (e' ∷ es') carried carried' alike = elim alike [ ]
+  alike_size (e ∷ es) [] carried carried' alike = elim alike [ ]
   alike_size (e ∷ es) (e' ∷ es') carried carried' alike =
       let (record₀, record₁) : List ℕ × List ℕ = (record_of e.0 e.1, record_of e'.0 e'.1) in
       let rest = alike_size es es' carried.1 carried'.1 alike.1 in

@@ -64,6 +64,8 @@ kind_coded_lem n kind e = elim (reads code_of record_kinds n) [ word v c of ↦ 
 -- numbers that fit one width are below one bound
 alike : (w k : ℕ) (xs : List ℕ) → Fit (replicate k w) xs → Below (256 ^ w) xs
 alike w zero [] h = tt
+alike w zero (x ∷ xs) h = elim h [ ]
+alike w (suc k) [] h = elim h [ ]
 alike w (suc k) (x ∷ xs) h = (h.0, alike w k xs h.1)
 
 -- up to n numbers and zeros past them, `most` in all

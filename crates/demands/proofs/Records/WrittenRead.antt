@@ -88,6 +88,8 @@ other_readable entry f other = record {
 
 fit_append : (vs ws xs ys : List ℕ) → Fit vs xs → Fit ws ys → Fit (vs ++ ws) (xs ++ ys)
 fit_append [] ws [] ys p q = q
+fit_append [] ws (x ∷ xs) ys p q = elim p [ ]
+fit_append (v ∷ vs) ws [] ys p q = elim p [ ]
 fit_append (v ∷ vs) ws (x ∷ xs) ys p q = (p.0, fit_append vs ws xs ys p.1 q)
 
 fit_take : (w n : ℕ) (xs : List ℕ) → n ≤ length xs → Below (256 ^ w) xs → Fit (replicate n w) (take n xs)
