@@ -19,10 +19,11 @@ const LINES: usize = 128;
 // A line takes 32 bytes at most.
 const PAGE: usize = 32 * LINES;
 
-// No more of a book is read. On the heap, since it would be most of the stack.
+// So many bytes of a book are read, and no more.
 const MOST: usize = 65_536;
 
 fn main(rt: HostRuntime) -> Result<(), AllocError> {
+    // On the heap: it would be most of the stack.
     let mut buffer = vec![in rt.alloc(); 0; MOST]?;
     let n = io::read_full(STANDARD_INPUT, buffer.as_mut_slice());
     print(&buffer.as_slice()[..n]);
