@@ -38,7 +38,7 @@ module _ (s : Sheet) where
   pub enough : s.holds + s.margin ≤ s.cash → available_of s ≡ pos (s.cash - (s.holds + s.margin))
   enough h = together ∙ left_of _ _ h
 
-  pub below_zero : s.cash < s.holds + s.margin → available_of s ≡ negsuc (s.holds + s.margin - suc s.cash)
+  below_zero : s.cash < s.holds + s.margin → available_of s ≡ negsuc (s.holds + s.margin - suc s.cash)
   below_zero h = together ∙ lacking _ _ h
 
   pub reaches : (hold : ℕ) → le_z (pos hold) (available_of s) ≡ leb (s.holds + s.margin + hold) s.cash

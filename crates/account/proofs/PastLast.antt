@@ -1,7 +1,6 @@
 -- Past the last row nothing stands and there is none to set: so what is set only where its number is inside is set.
 use mathlib.Core.Path.{◌≡◌, sym, ap, subst, ◌∙◌}
 use mathlib.Core.List.{List}
-use mathlib.Core.Logic.{◌⊎◌, inl, inr}
 use Prim.Native.Nat.{ℕ, ◌≤◌}
 use lib.ListN.{length, get_or, set, get_or-eq_default}
 use lib.Seq.{set_out}
@@ -15,8 +14,3 @@ module _ {A : Type 0} (n : ℕ) (rows : List A) (size : length rows ≡ n) (i : 
 
   pub none_set : (x : A) → n ≤ i → rows ≡ set rows i x
   none_set x out = sym (set_out rows i x (past out))
-
-  -- where two ways meet, one that sets the row and one that leaves it: what has the rows has the row set
-  pub row_set : {B L R : Type 0} (x : A) (with : List A → B) (after : B) → L ⊎ R → (L → after ≡ with (set rows i x)) → (R → (n ≤ i) × (after ≡ with rows)) → after ≡ with (set rows i x)
-  row_set x with after (inl came) inside out = inside came
-  row_set x with after (inr came) inside out = (out came).1 ∙ ap with (none_set x (out came).0)

@@ -51,9 +51,6 @@ module _ {t : Tables} {a : Account} {s : Seen} where
     its_place : row_of 32 (place_of a number) ≡ place_of a number
     its_place = row_of_lem 32 (place_of a number) there
 
-    pub order_named_lem : s.order ≡ rests
-    order_named_lem = ap (λ (s : Seen). s.order) (shown sees) ∙ ap (order a) its_place
-
     pub number_shown : s ≡ seen_at t a (place_of a number) rests.contract (contract t rests.contract).underlying
     number_shown =
         let c : row_of 64 (order a (row_of 32 (place_of a number))).contract ≡ rests.contract =

@@ -40,28 +40,6 @@ hands_one (suc left) i fractions shares some to =
     let one_less : suc left - 1 ≡ left = omega arith in
     ap (λ (n : ℕ). hand_out n (used_up fractions i) (one_more shares i)) one_less ∙ ap (λ (k : ℕ). hand_out left (used_up fractions k) (one_more shares k)) to
 
-module _ (left i : ℕ) (fractions shares : List ℕ) (before : Handable left fractions shares) (some : left ≢ 0) (inside : i < length fractions) where
-  less_room : (j : ℕ) → j < length shares → get_or (one_more shares i) j 0 + (left - 1) < 2 ^ 32
-  less_room j there =
-      let room = before.room j there in
-      elim (ℕ_discrete j i) [
-        | yes e ↦
-            let here = more_here shares i (omega (arith, inside, before.accounts)) in
-            let same = ap (λ (k : ℕ). get_or (one_more shares i) k 0) e in
-            let as_much = ap (λ (k : ℕ). get_or shares k 0) e in
-            omega (arith, here, same, as_much, some, room)
-        | no other ↦ let same = more_elsewhere shares i j other in omega (arith, same, room)
-      ]
-
-  -- .. whatever becomes of the fraction
-  pub fewer_left : (x : ℕ) → Handable (left - 1) (set fractions i x) (one_more shares i)
-  fewer_left x =
-      record {
-        accounts = length-set shares i _ ∙ before.accounts ∙ sym (length-set fractions i x);
-        some = λ h. omega (arith, inside, length-set fractions i x);
-        room = λ j there. less_room j (omega (arith, there, length-set shares i (get_or shares i 0 + 1)));
-      }
-
 -- the start: whole parts given, fractions kept, and what is left
 module _ (E : ℕ) (short covered : List ℕ) (ok : Allowed E short covered) (left : ℕ) (fractions shares : List ℕ) where
   module _ (left_is : left ≡ leftover E short covered) (shares_are : shares ≡ listed (length short) (whole_part E short covered)) (fractions_are : fractions ≡ listed (length short) (fraction E short covered)) where

@@ -28,14 +28,14 @@ same x y h = to_z_pos w64 x (omega (arith, h))
 first : (c h m : ℕ) → c + h + m < 2 ^ 63 → to_z w64 c -ℤ to_z w64 h ≡ pos c -ℤ pos h
 first c h m l i = same c (h + m) (omega (arith, l)) i -ℤ same h (c + m) (omega (arith, l)) i
 
-pub first_fits : (c h m : ℕ) → c + h + m < 2 ^ 63 → SFits w64 (to_z w64 c -ℤ to_z w64 h)
+first_fits : (c h m : ℕ) → c + h + m < 2 ^ 63 → SFits w64 (to_z w64 c -ℤ to_z w64 h)
 first_fits c h m l =
     rw (first c h m l) (record { sfits = lt_of_le_of_lt (less (pos c) h) (omega (arith, l)) })
 
 second : (c h m : ℕ) → c + h + m < 2 ^ 63 → to_z w64 (of_z w64 (to_z w64 c -ℤ to_z w64 h)) -ℤ to_z w64 m ≡ pos c -ℤ pos h -ℤ pos m
 second c h m l i = (to_z-of_z w64 _ (first_fits c h m l) ∙ first c h m l) i -ℤ same m (c + h) (omega (arith, l)) i
 
-pub second_fits : (c h m : ℕ) → c + h + m < 2 ^ 63 → SFits w64 (to_z w64 (of_z w64 (to_z w64 c -ℤ to_z w64 h)) -ℤ to_z w64 m)
+second_fits : (c h m : ℕ) → c + h + m < 2 ^ 63 → SFits w64 (to_z w64 (of_z w64 (to_z w64 c -ℤ to_z w64 h)) -ℤ to_z w64 m)
 second_fits c h m l =
     let parts = less (pos c) h in
     rw (second c h m l) (record { sfits = lt_of_le_of_lt (less (pos c -ℤ pos h) m) (omega (arith, l, parts)) })

@@ -57,9 +57,6 @@ module _ (t : Tables) (a : Account) (f : Figures) where
 
 -- in each arm the entry is known, and what is decided by what it sees
 module _ {s : Seen} {entry is : Entry} (e : entry ≡ is) where
-  pub as_known : SeenOf entry s → SeenOf is s
-  as_known = subst (λ (any : Entry). SeenOf any s) e
-
   pub for_entry : {d : Decision} (f : Figures) → Wherever is s (λ t a. d ≡ decision_on t a is f) → Wherever entry s (λ t a. d ≡ decision_on t a entry f)
   for_entry {d} f so = subst (λ (any : Entry). Wherever any s (λ t a. d ≡ decision_on t a any f)) (sym e) so
 
