@@ -10,6 +10,7 @@ use desk::run_on;
 use lines::input::STANDARD_INPUT;
 use lines::output::STANDARD_OUTPUT;
 use set_up::Book;
+use std::alloc::AllocError;
 use text::lines;
 
 // The records that are answered before their lines are written: the stack has no room for a whole book's.
@@ -18,10 +19,15 @@ const LINES: usize = 128;
 // A line takes 32 bytes at most.
 const PAGE: usize = 32 * LINES;
 
-fn main() {
-    let mut buffer = io::large_buffer();
-    let n = io::read_full(STANDARD_INPUT, &mut buffer);
-    print(&buffer[..n]);
+// So many bytes of a book are read, and no more.
+const MOST: usize = 65_536;
+
+fn main(rt: HostRuntime) -> Result<(), AllocError> {
+    // On the heap: it would be most of the stack.
+    let mut buffer = vec![in rt.alloc(); 0; MOST]?;
+    let n = io::read_full(STANDARD_INPUT, buffer.as_mut_slice());
+    print(&buffer.as_slice()[..n]);
+    Ok(())
 }
 
 // The lines of a book, written page after page; how many bytes they are.
