@@ -113,14 +113,6 @@ module _ (whole : Ran) (k : ℕ) (numbers₀ numbers : List ℕ) (sums₀ sums :
     pub sums_left_lem : k ≤ length sums₀ → sums ≡ sums_left whole sums₀
     sums_left_lem few = sym so.sums_laid ∙ laid sums₀ (λ said. said.1) (omega (arith, few, so.answered))
 
-pub nothing_yet : (places : ℕ) (s : List ℕ) (place : ℕ) (b : Book) (numbers : List ℕ) (sums : List ℤ)
-    → Stands (run_from places s place b) (run_from (places - 0) s place b) 0 numbers numbers sums sums
-nothing_yet places s place b numbers sums =
-    let whole = run_from places s place b in
-    let all : places ≡ places - 0 = omega arith in
-    subst (λ (n : ℕ). Stands whole (run_from n s place b) 0 numbers numbers sums sums) all
-    (record { answered = omega arith; place = refl; stopped = refl; book = refl; numbers_laid = refl; sums_laid = refl })
-
 -- the loop's test: a place in each slice, and a byte
 module _ (k a b place size : ℕ) where
   pub goes_on : ((ltb k a && ltb k b) && ltb place size) ≡ true → (k < a) × (k < b) × (place < size)
