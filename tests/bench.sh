@@ -3,11 +3,6 @@
 # rounds are run and nothing is drawn, to see that the answers agree.
 set -eu
 cd "$(dirname "$0")/.."
-if [ "$(uname -m)" = x86_64 ] && command -v rt >/dev/null; then
-    said=$(cd crates/archive_c && rt lib 2>&1) || {
-        printf '%s\n' "$said"
-        exit 1
-    }
-fi
+if [ "$(uname -m)" = x86_64 ] && command -v rt >/dev/null; then sh tests/archive.sh; fi
 PROFILE=speed sh tests/cargo.sh build --package bench
 exec host/target/speed/bench "${1:-docs/performance.svg}"

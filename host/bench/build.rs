@@ -14,13 +14,13 @@ fn main() {
     if told("CARGO_CFG_TARGET_ARCH") != "x86_64" || told("CARGO_CFG_TARGET_OS") != "linux" {
         return;
     }
-    let folder = Path::new(&told("CARGO_MANIFEST_DIR")).join("../../crates/archive_c/out");
-    let archive = folder.join("libarchive_c.a");
+    let folder = Path::new(&told("CARGO_MANIFEST_DIR")).join("../../target/staticlib");
+    let archive = folder.join("libarchive.a");
     println!("cargo:rerun-if-changed={}", archive.display());
     if archive.exists() {
         println!("cargo:rustc-cfg=archive");
         println!("cargo:rustc-link-search=native={}", folder.display());
-        println!("cargo:rustc-link-lib=static=archive_c");
+        println!("cargo:rustc-link-lib=static=archive");
     }
 }
 

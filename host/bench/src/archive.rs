@@ -1,4 +1,4 @@
-//! The archive that `rt lib` writes in `crates/archive_c`: the crates' code as the toolchain compiles it.
+//! The archive that `tests/archive.sh` writes: the crates' code as the toolchain compiles it.
 
 use crate::versions::{Answers, InHand, Version};
 
