@@ -32,7 +32,7 @@ done <"$work/paths" >>"$work/wrong"
 edits | comm -23 - "$work/named" | sed 's/^/a wrong edit that is not named: /' >>"$work/wrong"
 
 sed -n 's/ 1$//p' "$work/words" | sort >"$work/once"
-sources | grep '/proofs/.*\.antt$' | grep -v -e '/Proof\.antt$' -e '/Answers\.antt$' -e '/Invariants\.antt$' | tr '\n' '\0' | xargs -0 awk '
+sources | grep '/proofs/.*\.antt$' | grep -v -e '/proofs/.*/\(Proof\|Answers\|Invariants\)\.antt$' | tr '\n' '\0' | xargs -0 awk '
     FNR == 1 || /^$/ { fields = 0 }
     /^ *(pub )?(record|data) / { fields = 1 }
     !fields && /^ *pub [^ ]+ :/ { print $2 }

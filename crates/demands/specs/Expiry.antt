@@ -14,5 +14,5 @@ pub record Assigns (E : ℕ) (short covered cover naked : List ℕ) : Type 0 whe
   pub none_passes : (i : ℕ) → i < length short → share_in cover naked i ≤ net_total short covered i  -- "none passes its s"
   pub within_covered : (i : ℕ) → i < length short → get_or cover i 0 ≤ get_or covered i 0
   pub within_short : (i : ℕ) → i < length short → get_or naked i 0 ≤ get_or short i 0
-  pub covered_first_lem : (i : ℕ) → i < length short → 0 < get_or naked i 0 → get_or cover i 0 ≡ get_or covered i 0  -- "covered contracts are assigned first"
+  pub covered_first : (i : ℕ) → i < length short → 0 < get_or naked i 0 → get_or cover i 0 ≡ get_or covered i 0  -- "covered contracts are assigned first"
   pub as_stated : Stated E short covered (listed (length short) (share_in cover naked))  -- "order is as stated"

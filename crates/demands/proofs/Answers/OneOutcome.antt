@@ -39,15 +39,15 @@ use Rattle.steps.proofs.booked.Reads as booked
 use Rattle.steps.proofs.step.Reads as step
 use Rattle.set_up.proofs.rule.Reads as rule
 use Rattle.set_up.proofs.renewed.Reads as renewed
-use Rattle.rows.proofs.list_verdict.Reads as list_verdict_lem
+use Rattle.rows.proofs.list_verdict.Reads as list_verdict
 use Rattle.desk.proofs.run_list.Reads as run_list
 use Rattle.desk.proofs.run_book.Reads as run_book
 use Rattle.desk.proofs.run_on.Reads as run_on
 use Rattle.archive.proofs.ravundesk_run_book.Reads as ravundesk_run_book
 use Rattle.demands.proofs.Answers.Lent.{NewSays, NextSays, PostSays}
 
-pub margin_one_lem : (κs : _) (a : _) (r r' : _) (s s' : _) → margin.Post κs a r s → margin.Post κs a r' s' → r ≡ r'
-margin_one_lem κs a r r' s s' p q = p ∙ sym q
+pub margin_one : (κs : _) (a : _) (r r' : _) (s s' : _) → margin.Post κs a r s → margin.Post κs a r' s' → r ≡ r'
+margin_one κs a r r' s s' p q = p ∙ sym q
 
 pub premium_one : (κs : _) (a : _) (r r' : _) (s s' : _) → premium.Post κs a r s → premium.Post κs a r' s' → r ≡ r'
 premium_one κs a r r' s s' p q = p ∙ sym q
@@ -160,7 +160,7 @@ rule_one κs a r r' s s' of p q = p of.book of.sees ∙ sym (q of.book of.sees)
 pub renewed_one : (κs : _) (a : _) (r r' : _) (s s' : _) → renewed.Post κs a r s → renewed.Post κs a r' s' → r ≡ r'
 renewed_one κs a r r' s s' p q = p ∙ sym q
 
-pub list_verdict_one : (κs : _) (a : _) (r r' : _) (s s' : _) → list_verdict_lem.Post κs a r s → list_verdict_lem.Post κs a r' s' → r ≡ r'
+pub list_verdict_one : (κs : _) (a : _) (r r' : _) (s s' : _) → list_verdict.Post κs a r s → list_verdict.Post κs a r' s' → r ≡ r'
 list_verdict_one κs a r r' s s' p q = p ∙ sym q
 
 -- and both lent slices end in one way, the numbers and the sums

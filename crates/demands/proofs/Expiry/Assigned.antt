@@ -140,7 +140,7 @@ module _ (E : ℕ) (short covered lent lent' cover naked : List ℕ) (verdict : 
         none_passes = λ i there. let same = its_share i there in let most = none_passes E short covered ok i there in omega (arith, same, most);
         within_covered = λ i there. let its = its_cover i there in omega (arith, its);
         within_short = λ i there. let its = its_naked i there in let most = fits i there in omega (arith, its, most);
-        covered_first_lem = λ i there some. let its = its_naked i there in let all = its_cover i there in omega (arith, its, all, some);
+        covered_first = λ i there some. let its = its_naked i there in let all = its_cover i there in omega (arith, its, all, some);
         as_stated = subst (Stated E short covered) the_shares stated;
       }
 
