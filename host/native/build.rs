@@ -1,6 +1,9 @@
 //! Writes the crates' source as Rust: those whose functions are run, and each crate that they stand on, become a module, its files the
 //! module's files.
 
+mod in_rust;
+
+use in_rust::in_rust;
 use std::collections::BTreeMap;
 use std::path::{Path, PathBuf};
 use std::{env, fs};
@@ -72,81 +75,4 @@ fn write_crate(source: &Path, module: &Path, name: &str, needs: &[String]) {
             fs::write(target.with_extension("rs"), text).expect("OUT_DIR can be written");
         }
     }
-}
-
-/// The text of one file. Other crates are brought in by name, so that their paths stay as they are.
-fn in_rust(text: &str, name: &str, needs: &[String]) -> String {
-    let mut rust = format!("use crate::{{{}}};\n", needs.join(", "));
-    let own = format!("crate::{name}::");
-    for line in without_proofs(text) {
-        rust += &without_let_else(&line.replace("crate::", &own));
-        rust += "\n";
-    }
-    rust
-}
-
-/// The lines of what runs: all but contracts, ghost imports and attributes for the prover, which may go over several lines.
-fn without_proofs(text: &str) -> Vec<&str> {
-    let mut within = false;
-    let mut depth = 0;
-    let runs = |line: &&str| {
-        if !within && !is_proof(line) {
-            return true;
-        }
-        depth += opened(line);
-        within = depth != 0 || !line.ends_with(['}', ']', ';']);
-        false
-    };
-    text.lines().filter(runs).collect()
-}
-
-fn is_proof(line: &str) -> bool {
-    let line = line.trim_start();
-    let attributes = ["#[tactic(", "#![tactic(", "#[derive(Drop)]"];
-    let proof = ["ghost use", "requires", "ensures"];
-    attributes.iter().any(|start| line.starts_with(start))
-        || proof.iter().any(|words| {
-            let rest = line.strip_prefix(words);
-            rest.map_or(false, |rest| rest.is_empty() || rest.starts_with(' '))
-        })
-}
-
-/// How many brackets a line opens and does not close.
-fn opened(line: &str) -> i32 {
-    line.chars().fold(0, |depth, sign| match sign {
-        '(' | '[' | '{' => depth + 1,
-        ')' | ']' | '}' => depth - 1,
-        _ => depth,
-    })
-}
-
-/// `let PATTERN = VALUE else {` with `if let`, since Rust 1.63 has no `let .. else`.
-fn without_let_else(line: &str) -> String {
-    let parts = line.trim_start().strip_prefix("let ");
-    let parts = parts.and_then(|rest| rest.strip_suffix(" else {"));
-    let parts = parts.and_then(|rest| rest.split_once(" = "));
-    match parts {
-        Some((pattern, value)) if !value.starts_with("if ") => {
-            let names = names_in(pattern);
-            format!("let ({names}) = if let {pattern} = {value} {{ ({names}) }} else {{")
-        }
-        _ => line.to_string(),
-    }
-}
-
-/// What a pattern gives names to, each with a comma behind it, as in a tuple of any length.
-fn names_in(pattern: &str) -> String {
-    let spaced: String = pattern
-        .chars()
-        .map(|sign| match sign {
-            '(' | ')' | '{' | '}' | ',' => ' ',
-            other => other,
-        })
-        .collect();
-    let named = |word: &&str| word.starts_with(|first: char| first.is_ascii_lowercase());
-    let names = spaced.split_whitespace().filter(named);
-    names
-        .filter(|word| !word.contains(':'))
-        .map(|name| format!("{name}, "))
-        .collect()
 }

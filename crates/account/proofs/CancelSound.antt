@@ -9,6 +9,8 @@ use borrow.Author.Tests.{ltb-true, eq-eqb}
 use lib.Dec.{ltb}
 use lib.ListN.{set, length-set}
 use lib.Seq.{set_out}
+use Rattle.std.specs.Prelude.{Ok}
+use Rattle.terms.specs.Verdicts.{accept}
 use Rattle.terms.specs.Kinds.{moves_of}
 use Rattle.terms.specs.declared.kind.OrderKind.TheVariants.{BuyOpen}
 use Rattle.terms.specs.declared.kind.Side.{Side}
@@ -23,7 +25,6 @@ use Rattle.account.specs.Totals.{count_of, count_in, is_kind, is_open, resting_i
 use Rattle.account.specs.declared.account.Account.{Account}
 use Rattle.account.specs.declared.account.Holding.{Holding}
 use Rattle.account.specs.declared.account.Resting.{Resting}
-use Rattle.terms.specs.declared.verdict.Verdict.TheVariants.{Accepted}
 use Rattle.account.specs.declared.tables.Tables.{Tables}
 use Rattle.account.proofs.Allowed.{underlying_known}
 use Rattle.account.proofs.Bounds.{small}
@@ -153,9 +154,9 @@ module _ (t : Tables) (a : Account) (number : ℕ) (s : Sound t a) (there : plac
         no_more_holdings = λ u h. each (◌≡ no_holding) u (λ e. absurd (omega (arith, e, known, h))) (s.no_more_holdings u h);
       }
 
-pub cancel_there : (t : Tables) (a : Account) (number : ℕ) → cancel_verdict (named t a number) ≡ Accepted → place_of a number < 32
+pub cancel_there : (t : Tables) (a : Account) (number : ℕ) → cancel_verdict (named t a number) ≡ accept → place_of a number < 32
 unfolding cancel_verdict named
-cancel_there t a number e = ltb-true (place_of a number) 32 (went_on (ltb (place_of a number) 32) NoSuchOrder Accepted e).0
+cancel_there t a number e = ltb-true (place_of a number) 32 (went_on (ltb (place_of a number) 32) NoSuchOrder accept e).0
 
-pub cancel_sound : (t : Tables) (a : Account) (number : ℕ) → Sound t a → cancel_verdict (named t a number) ≡ Accepted → Sound t (applied a (cancel_change (named t a number)))
+pub cancel_sound : (t : Tables) (a : Account) (number : ℕ) → Sound t a → cancel_verdict (named t a number) ≡ accept → Sound t (applied a (cancel_change (named t a number)))
 cancel_sound t a number s e = after_sound t a number s (cancel_there t a number e)

@@ -6,6 +6,8 @@ use native.Mathlib.Decide.{dec_lt}
 use native.Mathlib.Omega.{arith}
 use borrow.Author.Tests.{ne_eqb}
 use lib.ListN.{length, replicate, length-replicate, length-map, get_or-eq_default}
+use Rattle.std.specs.Prelude.{Ok}
+use Rattle.terms.specs.Verdicts.{accept}
 use Rattle.terms.specs.declared.count.Position.{Position}
 use Rattle.terms.specs.declared.kind.OrderKind.TheVariants.{BuyOpen}
 use Rattle.terms.specs.declared.kind.Side.{Side}
@@ -21,7 +23,6 @@ use Rattle.account.specs.Sound.{SoundTables, Sound}
 use Rattle.account.specs.Totals.{count_in, is_kind, is_open, over_orders, rights_in, total_in, covered_units, reserved_units}
 use Rattle.account.specs.declared.account.Account.{Account}
 use Rattle.account.specs.declared.account.Holding.{Holding}
-use Rattle.terms.specs.declared.verdict.Verdict.TheVariants.{Accepted}
 use Rattle.account.specs.declared.tables.Tables.{Tables}
 use Rattle.account.proofs.Bounds.{row_of_lem, covered_in}
 use Rattle.account.proofs.Held.{Held, sound_held, waiting_paid}
@@ -195,5 +196,5 @@ module _ (t : Tables) (a : Account) (f : Figures) (s : Sound t a) (passed : InRa
         no_more_holdings = nothing_locked new a after tables_after_lem ended;
       }
 
-pub day_end_sound : (t : Tables) (a : Account) (n m : ℕ) (f : Figures) → Sound t a → day_end_verdict t n m f ≡ Accepted → Sound (figures_installed t f) (day_ended (figures_installed t f) a)
+pub day_end_sound : (t : Tables) (a : Account) (n m : ℕ) (f : Figures) → Sound t a → day_end_verdict t n m f ≡ accept → Sound (figures_installed t f) (day_ended (figures_installed t f) a)
 day_end_sound t a n m f s e = after_sound t a f s (figures_passed t n m f e)

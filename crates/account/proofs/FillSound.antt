@@ -8,6 +8,8 @@ use borrow.Author.Tests.{eqb-true, eq-eqb}
 use lib.Dec.{eqb, ltb}
 use lib.ListN.{length-set}
 use lib.Seq.{set-get_or}
+use Rattle.std.specs.Prelude.{Ok}
+use Rattle.terms.specs.Verdicts.{accept}
 use Rattle.terms.specs.Codes.{kind_code}
 use Rattle.terms.specs.Kinds.{moves_of, opens_of, buys_of}
 use Rattle.terms.specs.Ranges.{range_of, ◌∈◌}
@@ -33,7 +35,6 @@ use Rattle.terms.specs.Sums.{◌when◌}
 use Rattle.account.specs.Totals.{is_of, count_of, is_kind, is_open, resting_on, rights_in, total_in}
 use Rattle.account.specs.declared.account.Account.{Account}
 use Rattle.account.specs.declared.account.Resting.{Resting}
-use Rattle.terms.specs.declared.verdict.Verdict.TheVariants.{Accepted}
 use Rattle.account.specs.declared.tables.Tables.{Tables}
 use Rattle.account.proofs.Allowed.{contract_known, underlying_known}
 use Rattle.account.proofs.Filled.{FillPassed, fill_held, fill_passed, fill_takes}
@@ -224,5 +225,5 @@ module _ (t : Tables) (a : Account) (fill : Fill) (s : Sound t a) (p : FillPasse
         no_more_holdings = λ u h. holding_after u ∙ s.no_more_holdings u h;
       }
 
-pub fill_sound : (t : Tables) (a : Account) (fill : Fill) → Sound t a → fill_verdict (named t a fill.number) fill ≡ Accepted → Sound t (applied a (fill_change (named t a fill.number) fill))
+pub fill_sound : (t : Tables) (a : Account) (fill : Fill) → Sound t a → fill_verdict (named t a fill.number) fill ≡ accept → Sound t (applied a (fill_change (named t a fill.number) fill))
 fill_sound t a fill s e = after_sound t a fill s (fill_passed (named t a fill.number) fill e)

@@ -6,6 +6,8 @@ use native.Mathlib.Nat.{mul-le-mul_left}
 use native.Mathlib.Omega.{arith}
 use borrow.Author.Tests.{leb-true, ltb-true}
 use lib.Dec.{leb, ltb}
+use Rattle.std.specs.Prelude.{Ok}
+use Rattle.terms.specs.Verdicts.{accept}
 use Rattle.terms.specs.Kinds.{moves_of, buys_of}
 use Rattle.terms.specs.Ranges.{range_of, ◌∈◌}
 use Rattle.terms.specs.declared.kind.OrderKind.{OrderKind}
@@ -26,7 +28,6 @@ use Rattle.account.specs.Rows.{contract, underlying, order}
 use Rattle.account.specs.declared.account.Account.{Account}
 use Rattle.account.specs.declared.account.Resting.{Resting}
 use Rattle.account.specs.declared.judged.Named.{Named}
-use Rattle.terms.specs.declared.verdict.Verdict.TheVariants.{Accepted}
 use Rattle.account.specs.declared.tables.Tables.{Tables}
 use Rattle.account.proofs.Held.{Held}
 use Rattle.account.proofs.Passed.{went_on}
@@ -39,7 +40,7 @@ pub record FillPassed (f : Named) (fill : Fill) : Type 0 where
   pub price : buys_of (kind_of f.order) ≡ true → fill.price ≤ f.order.price
   pub ceiling : buys_of (kind_of f.order) ≡ false → f.sheet.cash + f.sheet.premium + paid f fill ≤ 1_000_000_000_000_000
 
-pub fill_passed : (f : Named) (fill : Fill) → fill_verdict f fill ≡ Accepted → FillPassed f fill
+pub fill_passed : (f : Named) (fill : Fill) → fill_verdict f fill ≡ accept → FillPassed f fill
 unfolding fill_verdict
 fill_passed f fill e =
     let buys = buys_of (kind_of f.order) in
@@ -49,7 +50,7 @@ fill_passed f fill e =
     let range = went_on ((fill.quantity ∈ range_of Quantity) && (fill.price ∈ range_of Price)) OutOfRange _ e in
     let place = went_on (ltb f.place 32) NoSuchOrder _ range.1 in
     let bar = went_on (within && priced) FillBarred _ place.1 in
-    let ceiling = went_on (buys || (total ∈ range_of Money)) CeilingPassed Accepted bar.1 in
+    let ceiling = went_on (buys || (total ∈ range_of Money)) CeilingPassed accept bar.1 in
     record {
       there = ltb-true _ _ place.0;
       enough = leb-true _ _ (first_holds within priced bar.0);

@@ -7,6 +7,7 @@ use lib.Dec.{eqb, leb, leb-zero, ltb}
 use lib.IntN.{pos}
 use lib.ListN.{drop}
 use lib.Signed.{le_z}
+use Rattle.std.specs.Prelude.{Ok}
 use Rattle.terms.specs.Codes.{kind_code, right_code}
 use Rattle.terms.specs.Kinds.{buys_of, moves_of}
 use Rattle.terms.specs.Ranges.{range_of, ◌to◌, ◌∈◌}
@@ -36,14 +37,13 @@ use Rattle.account.specs.Rows.{contract, holding}
 use Rattle.account.specs.Steps.{refusal_of}
 use Rattle.account.specs.Totals.{spare_units}
 use Rattle.account.specs.Transfers.{amount_allowed, deposit_verdict, payout_verdict, withdraw_verdict}
-use Rattle.terms.specs.Verdicts.{◌else◌then◌, number_in}
+use Rattle.terms.specs.Verdicts.{◌else◌then◌, number_in, accept}
 use Rattle.account.specs.declared.account.Account.{Account}
 use Rattle.account.specs.declared.account.Holding.{Holding}
 use Rattle.account.specs.declared.account.Sheet.{Sheet}
 use Rattle.account.specs.declared.judged.Facts.{Facts}
 use Rattle.account.specs.declared.judged.Named.{Named}
-use Rattle.terms.specs.declared.verdict.Verdict.{Verdict}
-use Rattle.terms.specs.declared.verdict.Verdict.TheVariants.{Accepted}
+use Rattle.terms.specs.Verdicts.{Verdict}
 use Rattle.account.specs.declared.tables.Tables.{Tables}
 use Rattle.account.proofs.Flags.{listed}
 
@@ -51,7 +51,7 @@ use Rattle.account.proofs.Flags.{listed}
 pub record Told (v : Verdict) (tests : List (Bool × ℕ)) : Type 0 where
   pub number : number_in v ≡ first tests
 
-pub accepted : Told Accepted []
+pub accepted : Told accept []
 accepted = record { number = refl }
 
 -- a check that adds tests: put before a verdict, it puts them before that verdict's

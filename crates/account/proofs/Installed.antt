@@ -5,6 +5,8 @@ use Prim.Native.Nat.{ℕ, ◌<◌}
 use native.Mathlib.Omega.{arith}
 use borrow.Author.Tests.{eqb-true}
 use lib.Dec.{eqb, ltb}
+use Rattle.std.specs.Prelude.{Ok}
+use Rattle.terms.specs.Verdicts.{accept}
 use Rattle.terms.specs.Counts.{units_for}
 use Rattle.terms.specs.Ranges.{range_of, unit_allowed, ◌∈◌}
 use Rattle.terms.specs.declared.kind.Side.{Side}
@@ -20,7 +22,6 @@ use Rattle.account.specs.Sound.{SoundTables}
 use Rattle.terms.specs.Sums.{◌when◌}
 use Rattle.account.specs.Totals.{count_of, count_in, covered_units}
 use Rattle.account.specs.declared.account.Account.{Account}
-use Rattle.terms.specs.declared.verdict.Verdict.TheVariants.{Accepted}
 use Rattle.account.specs.declared.tables.Tables.{Tables}
 use Rattle.account.proofs.Bounds.{four, limits_of, row_of_lem}
 use Rattle.terms.proofs.Listed.{listed_below, each_passes}
@@ -33,16 +34,16 @@ pub record InRange (t : Tables) (f : Figures) : Type 0 where
   pub closes : (u : ℕ) → u < t.m → (close_of f u ∈ range_of Price) ≡ true
 
 -- an accepted day end has as many rows as the tables
-pub rows_told : (t : Tables) (n m : ℕ) (f : Figures) → day_end_verdict t n m f ≡ Accepted → (n ≡ t.n) × (m ≡ t.m)
+pub rows_told : (t : Tables) (n m : ℕ) (f : Figures) → day_end_verdict t n m f ≡ accept → (n ≡ t.n) × (m ≡ t.m)
 unfolding day_end_verdict
 rows_told t n m f e =
-    let known = four (eqb n t.n) (eqb m t.m) (every n _) (every m _) (went_on _ OutOfRange Accepted e).0 in
+    let known = four (eqb n t.n) (eqb m t.m) (every n _) (every m _) (went_on _ OutOfRange accept e).0 in
     (eqb-true n t.n known.0, eqb-true m t.m known.1)
 
-pub figures_passed : (t : Tables) (n m : ℕ) (f : Figures) → day_end_verdict t n m f ≡ Accepted → InRange t f
+pub figures_passed : (t : Tables) (n m : ℕ) (f : Figures) → day_end_verdict t n m f ≡ accept → InRange t f
 unfolding day_end_verdict
 figures_passed t n m f e =
-    let known = four (eqb n t.n) (eqb m t.m) (every n _) (every m _) (went_on _ OutOfRange Accepted e).0 in
+    let known = four (eqb n t.n) (eqb m t.m) (every n _) (every m _) (went_on _ OutOfRange accept e).0 in
     let same = rows_told t n m f e in
     record {
       settlements = λ c h. each_passes n _ known.2 c (omega (arith, h, same.0));

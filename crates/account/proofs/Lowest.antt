@@ -8,7 +8,7 @@ use native.Mathlib.Numerals.{add-one}
 use native.Mathlib.Omega.{arith}
 use Rattle.terms.specs.Sums.{lowest}
 
-lowest_most : (n : ℕ) (test : ℕ → Bool) → lowest n test ≤ n
+pub lowest_most : (n : ℕ) (test : ℕ → Bool) → lowest n test ≤ n
 unfolding lowest
 lowest_most zero test = omega arith
 lowest_most (suc n) test =

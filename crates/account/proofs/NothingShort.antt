@@ -5,6 +5,8 @@ use Prim.Native.Nat.{ℕ, ◌+◌, ◌≤◌, ◌<◌}
 use native.Mathlib.Omega.{arith}
 use borrow.Author.Tests.{leb-true, eq-eqb}
 use lib.Dec.{leb}
+use Rattle.std.specs.Prelude.{Ok}
+use Rattle.terms.specs.Verdicts.{accept}
 use Rattle.terms.specs.Codes.{kind_code}
 use Rattle.terms.specs.Kinds.{moves_of, opens_of, buys_of}
 use Rattle.terms.specs.declared.kind.OrderKind.TheVariants.{BuyOpen, BuyClose}
@@ -21,7 +23,6 @@ use Rattle.account.specs.Totals.{count_of, is_kind, covered_units, reserved_unit
 use Rattle.account.specs.Transfers.{withdraw_verdict}
 use Rattle.account.specs.declared.account.Account.{Account}
 use Rattle.account.specs.declared.judged.Named.{Named}
-use Rattle.terms.specs.declared.verdict.Verdict.TheVariants.{Accepted}
 use Rattle.account.specs.declared.tables.Tables.{Tables}
 use Rattle.account.proofs.CancelSound as cancels
 use Rattle.account.proofs.FillSound as fills
@@ -33,18 +34,18 @@ use Rattle.account.proofs.Taken.{resting_taken, holds_taken}
 use Rattle.account.proofs.TransferSound.{asked}
 
 -- what is asked for is available: what is held and what is asked as margin stays
-pub withdraw_exact : (a : Account) (amount : ℕ) → withdraw_verdict a.sheet a.waiting amount ≡ Accepted → a.sheet.holds + a.sheet.margin + amount ≤ a.sheet.cash
+pub withdraw_exact : (a : Account) (amount : ℕ) → withdraw_verdict a.sheet a.waiting amount ≡ accept → a.sheet.holds + a.sheet.margin + amount ≤ a.sheet.cash
 withdraw_exact a amount e = (asked a amount e).within
 
 pub spare_exact : (t : Tables) (a : Account) (u : ℕ) → Sound t a → u < t.m → (spare_units t a u).0 + covered_units t a u + reserved_units t a u ≡ (holding a u).locked.0
 unfolding spare_units
 spare_exact t a u s there = omega (arith, s.units u there)
 
-pub unlock_exact : (t : Tables) (a : Account) (u units : ℕ) → unlock_verdict t (spare_units t a u) u units ≡ Accepted → units ≤ (holding a u).locked.0
+pub unlock_exact : (t : Tables) (a : Account) (u units : ℕ) → unlock_verdict t (spare_units t a u) u units ≡ accept → units ≤ (holding a u).locked.0
 unfolding unlock_verdict spare_units
 unlock_exact t a u units e =
     let allowed = went_on (units_allowed t u units) OutOfRange _ e in
-    omega (arith, leb-true units _ (went_on (leb units (spare_units t a u).0) SpareTooFew Accepted allowed.1).0)
+    omega (arith, leb-true units _ (went_on (leb units (spare_units t a u).0) SpareTooFew accept allowed.1).0)
 
 module _ (t : Tables) (a : Account) (fill : Fill) where
   abbrev filled : Named
@@ -58,7 +59,7 @@ module _ (t : Tables) (a : Account) (fill : Fill) where
     pub holds : for_count fill.quantity filled.hold ≤ filled.sheet.holds
     pub margin : kind_of filled.order ≡ BuyClose → for_count fill.quantity filled.margin ≤ filled.sheet.margin
 
-  pub fill_exact : Sound t a → fill_verdict (named t a fill.number) fill ≡ Accepted → FillExact
+  pub fill_exact : Sound t a → fill_verdict (named t a fill.number) fill ≡ accept → FillExact
   unfolding named for_count
   fill_exact s e =
       let passed = fill_passed (named t a fill.number) fill e in
@@ -82,7 +83,7 @@ module _ (t : Tables) (a : Account) (number : ℕ) where
     pub holds : for_count cancelled.order.left.0 cancelled.hold ≤ cancelled.sheet.holds
     pub bought : (cancelled.order.left.0 when is_kind BuyOpen cancelled.order.kind) ≤ cancelled.holding.bought.0
 
-  pub cancel_exact : Sound t a → cancel_verdict (named t a number) ≡ Accepted → CancelExact
+  pub cancel_exact : Sound t a → cancel_verdict (named t a number) ≡ accept → CancelExact
   unfolding named
   cancel_exact s e =
       let under = (contract t (order a (place_of a number)).contract).underlying in

@@ -9,11 +9,12 @@ use native.Mathlib.Omega.{arith}
 use borrow.Author.Tests.{eqb-true}
 use lib.Dec.{eqb}
 use lib.ListN.{length-set}
+use Rattle.std.specs.Prelude.{Ok}
+use Rattle.terms.specs.Verdicts.{accept}
 use Rattle.terms.specs.Codes.{kind_code}
 use Rattle.terms.specs.Kinds.{moves_of, opens_of}
 use Rattle.terms.specs.declared.kind.OrderKind.{OrderKind}
 use Rattle.terms.specs.declared.kind.OrderKind.TheVariants.{BuyOpen, CoveredOpen}
-use Rattle.terms.specs.declared.kind.OrderKindCoded.TheVariants.{Listed}
 use Rattle.terms.specs.declared.kind.Side.{Side}
 use Rattle.terms.specs.declared.kind.Side.TheVariants.{Long, Short, Covered}
 use Rattle.terms.proofs.Codes.{kind_read}
@@ -28,7 +29,6 @@ use Rattle.terms.specs.Sums.{◌when◌}
 use Rattle.account.specs.Totals.{is_of, count_of, count_in, is_kind, is_open, resting_in, resting_on, rights_in, total_in, covered_units, reserved_units, spare_units}
 use Rattle.account.specs.declared.account.Account.{Account}
 use Rattle.account.specs.declared.account.Resting.{Resting}
-use Rattle.terms.specs.declared.verdict.Verdict.TheVariants.{Accepted}
 use Rattle.account.specs.declared.tables.Tables.{Tables}
 use Rattle.account.proofs.Allowed.{contract_known, underlying_known}
 use Rattle.account.proofs.Held.{Held, sound_held}
@@ -67,7 +67,7 @@ numbered t a s i h = go (order a i).number refl
 rested_sound : (t : Tables) (o : Order) → order_allowed t o ≡ true → SoundOrder t o.number (rested o)
 rested_sound t o allowed =
     let kind = answered_kind o.kind in
-    record { listed = kind_read o.kind ∙ ap Listed (sym kind); allowed = rw kind allowed; accepted = le_refl o.number }
+    record { listed = kind_read o.kind ∙ ap Ok (sym kind); allowed = rw kind allowed; accepted = le_refl o.number }
 
 still_sound : (t : Tables) (r : Resting) {last number : ℕ} → last < number → SoundOrder t last r → SoundOrder t number r
 still_sound t r above sound = record { listed = sound.listed; allowed = sound.allowed; accepted = omega (arith, sound.accepted) }
@@ -190,7 +190,7 @@ module _ (t : Tables) (a : Account) (o : Order) (s : Sound t a) (p : Passed t a 
         no_more_holdings = no_more_holdings_lem t a o s p;
       }
 
-pub order_sound : (t : Tables) (a : Account) (o : Order) → Sound t a → order_verdict (facts_of t a o) o ≡ Accepted → Sound t (applied a (order_change (facts_of t a o) o))
+pub order_sound : (t : Tables) (a : Account) (o : Order) → Sound t a → order_verdict (facts_of t a o) o ≡ accept → Sound t (applied a (order_change (facts_of t a o) o))
 order_sound t a o s e =
     let p = accepted_passed t a o e in
     rw (facts_known t a o p.allowed) (after_sound t a o s p)

@@ -8,6 +8,7 @@ use native.Mathlib.Omega.{arith}
 use borrow.Author.Tests.{leb-true, ltb-true}
 use lib.Dec.{leb}
 use lib.ListN.{length, get_or}
+use Rattle.std.specs.Prelude.{Ok, Err}
 use Rattle.terms.specs.Kinds.{moves_of, opens_of}
 use Rattle.terms.specs.declared.kind.OrderKind.{OrderKind}
 use Rattle.terms.specs.declared.kind.OrderKind.TheVariants.{BuyOpen, SellClose, SellOpen, BuyClose, CoveredOpen, CoveredClose}
@@ -20,20 +21,19 @@ use Rattle.account.specs.Orders.{under, order_allowed, free_place, facts_in, no_
 use Rattle.account.specs.Rows.{contract, underlying, position, holding}
 use Rattle.account.specs.Running.{closing_on}
 use Rattle.account.specs.Totals.{count_of, resting_on, rights_in, total_in, spare_units}
-use Rattle.terms.specs.Verdicts.{◌else◌then◌}
+use Rattle.terms.specs.Verdicts.{◌else◌then◌, accept}
 use Rattle.account.specs.declared.account.Account.{Account}
 use Rattle.account.specs.declared.judged.Facts.{Facts}
-use Rattle.terms.specs.declared.verdict.Verdict.{Verdict}
-use Rattle.terms.specs.declared.verdict.Verdict.TheVariants.{Accepted, Refused}
+use Rattle.terms.specs.Verdicts.{Verdict}
 use Rattle.account.specs.declared.tables.Tables.{Tables}
 use Rattle.account.proofs.Available.{reaches}
 
 -- a refusal accepts nothing
-pub never : {why : Refusal} → Refused why ≡ Accepted → ⊥
+pub never : {why : Refusal} → Err why ≡ accept → ⊥
 never e = let z : ◌≡◌ {A = ℕ} 0 1 = cc in omega arith
 
 -- a check before an accepted verdict was passed, and what follows it accepted
-pub went_on : (passed : Bool) (why : Refusal) (rest : Verdict) → (passed else why then rest) ≡ Accepted → (passed ≡ true) × (rest ≡ Accepted)
+pub went_on : (passed : Bool) (why : Refusal) (rest : Verdict) → (passed else why then rest) ≡ accept → (passed ≡ true) × (rest ≡ accept)
 went_on true why rest e = (refl, e)
 went_on false why rest e = absurd (never e)
 
@@ -43,7 +43,7 @@ met_passed true passed e m = e
 met_passed false passed e m = absurd (false≢true m)
 
 module _ (f : Facts) (o : Order) where
-  walked_passes : (checks : List Check) → walked checks f o ≡ Accepted → (i : ℕ) → i < length checks → meets o.kind (get_or checks i Values) ≡ true → passes (get_or checks i Values) f o ≡ true
+  walked_passes : (checks : List Check) → walked checks f o ≡ accept → (i : ℕ) → i < length checks → meets o.kind (get_or checks i Values) ≡ true → passes (get_or checks i Values) f o ≡ true
   walked_passes [] e i h met = absurd (not-suc-le-zero h)
   walked_passes (check ∷ rest) e zero h met =
       let one = went_on (not (meets o.kind check) || passes check f o) (refusal_for check) (walked rest f o) e in
@@ -52,7 +52,7 @@ module _ (f : Facts) (o : Order) where
       let one = went_on (not (meets o.kind check) || passes check f o) (refusal_for check) (walked rest f o) e in
       walked_passes rest one.1 i (le_of_suc-le-suc h) met
 
-  accepted_passes : order_verdict f o ≡ Accepted → (check : Check) → meets o.kind check ≡ true → passes check f o ≡ true
+  accepted_passes : order_verdict f o ≡ accept → (check : Check) → meets o.kind check ≡ true → passes check f o ≡ true
   unfolding order_verdict
   accepted_passes e Values = walked_passes columns e 0 (omega arith)
   accepted_passes e Number = walked_passes columns e 1 (omega arith)
@@ -111,7 +111,7 @@ module _ (t : Tables) (a : Account) (o : Order) where
   unfolding facts_of
   facts_known allowed = rw allowed
 
-  pub accepted_passed : order_verdict (facts_of t a o) o ≡ Accepted → Passed t a o
+  pub accepted_passed : order_verdict (facts_of t a o) o ≡ accept → Passed t a o
   unfolding facts_of
   accepted_passed e =
       let each = accepted_passes (facts_of t a o) o e in

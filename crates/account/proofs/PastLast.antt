@@ -1,16 +1,13 @@
--- Past the last row nothing stands and there is none to set: so what is set only where its number is inside is set.
+-- Past the last row there is none to set: so what is set only where its number is inside is set.
 use mathlib.Core.Path.{◌≡◌, sym, subst}
 use mathlib.Core.List.{List}
 use Prim.Native.Nat.{ℕ, ◌≤◌}
-use lib.ListN.{length, get_or, set, get_or-eq_default}
+use lib.ListN.{length, set}
 use lib.Seq.{set_out}
 
 module _ {A : Type 0} (n : ℕ) (rows : List A) (size : length rows ≡ n) (i : ℕ) where
   past : n ≤ i → length rows ≤ i
   past out = subst (λ (k : ℕ). k ≤ i) (sym size) out
-
-  pub none_there : (none : A) → n ≤ i → none ≡ get_or rows i none
-  none_there none out = sym (get_or-eq_default rows none (past out))
 
   pub none_set : (x : A) → n ≤ i → rows ≡ set rows i x
   none_set x out = sym (set_out rows i x (past out))

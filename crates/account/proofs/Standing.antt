@@ -5,6 +5,7 @@ use Prim.Native.Nat.{ℕ, ◌+◌, ◌≤◌, ◌<◌}
 use native.Mathlib.Omega.{arith}
 use lib.ListN.{length, set, get_or-eq_default}
 use lib.Seq.{set_out, set-get_or}
+use Rattle.std.specs.Prelude.{Option}
 use Rattle.account.specs.Changes.{applied, closing_after, running_after, waiting_after, without_position}
 use Rattle.account.specs.Money.{margin_in}
 use Rattle.account.specs.Rows.{free, no_holding, no_position, holding, order, position}
@@ -14,7 +15,6 @@ use Rattle.account.specs.Totals.{count_in, over_orders, rights_in, total_in, cov
 use Rattle.account.specs.declared.account.Account.{Account}
 use Rattle.account.specs.declared.account.Holding.{Holding}
 use Rattle.account.specs.declared.account.Sheet.{Sheet}
-use Rattle.account.specs.declared.judged.Waiting.{Waiting}
 use Rattle.account.specs.declared.tables.Tables.{Tables}
 use Rattle.account.proofs.Held.{Held}
 use Rattle.account.proofs.Instead.{closing_unmoved, running_unmoved}
@@ -75,7 +75,7 @@ module _ (t : Tables) (a : Account) (s : Sound t a) where
       }
 
   -- no contract has the number 64 and no place the number 32, so nothing is taken off what is kept, and nothing put on
-  pub stands : (sheet : Sheet) (waiting : Waiting) (u : ℕ) (h : Holding)
+  pub stands : (sheet : Sheet) (waiting : (Option ℕ)) (u : ℕ) (h : Holding)
       → applied a (without_position sheet waiting 32 free 0 u h a.last) ≡ standing a sheet (waiting_after waiting a.waiting) (set a.holdings u h)
   unfolding applied
   stands sheet waiting u h =

@@ -1,5 +1,7 @@
 -- An accepted entry leaves what is held as the sum of what holds it, within cash, on any tables: each kind has its reason, and a record of set-up is never accepted.
 use mathlib.Core.Path.{◌≡◌}
+use Rattle.std.specs.Prelude.{Ok}
+use Rattle.terms.specs.Verdicts.{accept}
 use Rattle.entries.specs.declared.entry.Entry.{Entry}
 use Rattle.entries.specs.declared.entry.Entry.TheVariants.{Deposit, Withdraw, Lock, Unlock, Order, Fill, Cancel, DayEnd, Pay, Drop, Underlying, Contract, Opening}
 use Rattle.entries.specs.declared.entry.Figures.{Figures}
@@ -8,7 +10,6 @@ use Rattle.account.specs.Fills.{named}
 use Rattle.account.specs.Locks.{lock_change, unlock_change}
 use Rattle.account.specs.Steps.{account_after, refusal_of, tables_after}
 use Rattle.account.specs.declared.account.Account.{Account}
-use Rattle.terms.specs.declared.verdict.Verdict.TheVariants.{Accepted}
 use Rattle.account.specs.declared.tables.Tables.{Tables}
 use Rattle.account.proofs.CancelSound.{cancel_held, cancel_there}
 use Rattle.account.proofs.DayEndSound.{day_end_held}
@@ -19,7 +20,7 @@ use Rattle.account.proofs.Ordered.{order_held}
 use Rattle.account.proofs.Passed.{accepted_passed, facts_known, never}
 use Rattle.account.proofs.TransferSound.{asked, deposit_held, drop_held, pay_held, withdraw_held}
 
-pub accepted_held : (t : Tables) (a : Account) (entry : Entry) (f : Figures) → Held t a → refusal_of t a entry f ≡ Accepted → Held (tables_after t entry f) (account_after t a entry f)
+pub accepted_held : (t : Tables) (a : Account) (entry : Entry) (f : Figures) → Held t a → refusal_of t a entry f ≡ accept → Held (tables_after t entry f) (account_after t a entry f)
 unfolding refusal_of tables_after account_after lock_change unlock_change
 accepted_held t a (Deposit amount) f held e = deposit_held held amount
 accepted_held t a (Withdraw amount) f held e = withdraw_held held amount (asked a amount e)

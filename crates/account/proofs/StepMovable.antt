@@ -4,6 +4,8 @@ use mathlib.Core.Logic.{◌⊎◌, inl, inr}
 use Prim.Native.Nat.{ℕ, ◌≤◌, ◌<◌}
 use native.Mathlib.Omega.{arith}
 use lib.ListN.{get_or-eq_default}
+use Rattle.std.specs.Prelude.{Ok, Option}
+use Rattle.terms.specs.Verdicts.{accept}
 use Rattle.entries.specs.declared.entry.Entry.{Entry}
 use Rattle.entries.specs.declared.entry.Entry.TheVariants.{Deposit, Withdraw, Lock, Unlock, Order, Fill, Cancel, DayEnd, Pay, Drop, Underlying, Contract, Opening}
 use Rattle.entries.specs.declared.entry.Figures.{Figures}
@@ -19,8 +21,6 @@ use Rattle.account.specs.Transfers.{deposit_change, withdraw_change, pay_change,
 use Rattle.account.specs.declared.account.Account.{Account}
 use Rattle.account.specs.declared.account.Holding.{Holding}
 use Rattle.account.specs.declared.account.Sheet.{Sheet}
-use Rattle.terms.specs.declared.verdict.Verdict.TheVariants.{Accepted}
-use Rattle.account.specs.declared.judged.Waiting.{Waiting}
 use Rattle.account.specs.declared.tables.Tables.{Tables}
 use Rattle.account.proofs.CancelSound.{cancel_fits, cancel_sound, cancel_there}
 use Rattle.account.proofs.FillSound.{fill_fits, fill_sound}
@@ -37,7 +37,7 @@ module _ (t : Tables) (a : Account) (s : Sound t a) where
   kept_small u (inl there) = rw (s.running u (omega (arith, there, s.tables.few_underlyings))) (running_small s u there)
   kept_small u (inr past) = subst RunningSmall (sym (get_or-eq_default a.running no_running (omega (arith, past, s.running_rows)))) (record { long = omega arith; total = omega arith; buys = omega arith; opens = omega arith; taken = omega arith })
 
-  still : (sheet : Sheet) (waiting : Waiting) (u : ℕ) (h : Holding) → (u < t.m) ⊎ (8 ≤ u) → Movable a (without_position sheet waiting 32 free 0 u h a.last)
+  still : (sheet : Sheet) (waiting : (Option ℕ)) (u : ℕ) (h : Holding) → (u < t.m) ⊎ (8 ≤ u) → Movable a (without_position sheet waiting 32 free 0 u h a.last)
   still sheet waiting u h where_to =
       let no_order : order a 32 ≡ free = get_or-eq_default a.orders free (omega (arith, s.order_rows)) in
       let no_position_lem : position a 64 ≡ no_position = s.no_more_positions 64 s.tables.few_contracts in
@@ -47,7 +47,7 @@ module _ (t : Tables) (a : Account) (s : Sound t a) where
         free = λ inside. absurd (omega (arith, inside));
       }
 
-  pub accepted_movable : (entry : Entry) (f : Figures) → refusal_of t a entry f ≡ Accepted → Movable a (change_of t a entry)
+  pub accepted_movable : (entry : Entry) (f : Figures) → refusal_of t a entry f ≡ accept → Movable a (change_of t a entry)
   unfolding refusal_of lock_verdict unlock_verdict deposit_change withdraw_change pay_change drop_change lock_change unlock_change
   accepted_movable (Deposit amount) f e = still _ _ 8 _ (inr (omega arith))
   accepted_movable (Withdraw amount) f e = still _ _ 8 _ (inr (omega arith))

@@ -1,6 +1,7 @@
 -- A refused entry leaves tables and account as they were, and each kind of accepted entry keeps them sound; so does a list of entries, one after the other.
 use mathlib.Core.Path.{◌≡◌, refl}
 use mathlib.Core.List.{List, [], ◌∷◌}
+use Rattle.std.specs.Prelude.{Ok, Err}
 use Rattle.entries.specs.declared.entry.Entry.{Entry}
 use Rattle.entries.specs.declared.entry.Entry.TheVariants.{Deposit, Withdraw, Lock, Unlock, Order, Fill, Cancel, DayEnd, Pay, Drop, Underlying, Contract, Opening}
 use Rattle.entries.specs.declared.entry.Figures.{Figures}
@@ -8,8 +9,7 @@ use Rattle.account.specs.Sound.{AllSound, Sound}
 use Rattle.account.specs.Steps.{refusal_of, tables_after, account_after, outcome, step, run}
 use Rattle.account.specs.declared.account.Account.{Account}
 use Rattle.account.specs.declared.judged.Outcome.{Outcome}
-use Rattle.terms.specs.declared.verdict.Verdict.{Verdict}
-use Rattle.terms.specs.declared.verdict.Verdict.TheVariants.{Accepted, Refused}
+use Rattle.terms.specs.Verdicts.{Verdict, accept}
 use Rattle.account.specs.declared.tables.Tables.{Tables}
 use Rattle.account.proofs.CancelSound.{cancel_sound}
 use Rattle.account.proofs.DayEndSound.{day_end_sound}
@@ -20,7 +20,7 @@ use Rattle.account.proofs.Passed.{never}
 use Rattle.account.proofs.TransferSound.{deposit_sound, drop_sound, pay_sound, withdraw_sound}
 
 -- a record of set-up is refused
-accepted_sound : (t : Tables) (a : Account) (entry : Entry) (f : Figures) → Sound t a → refusal_of t a entry f ≡ Accepted → Sound (tables_after t entry f) (account_after t a entry f)
+accepted_sound : (t : Tables) (a : Account) (entry : Entry) (f : Figures) → Sound t a → refusal_of t a entry f ≡ accept → Sound (tables_after t entry f) (account_after t a entry f)
 unfolding refusal_of tables_after account_after
 accepted_sound t a (Deposit amount) f s e = deposit_sound t a s amount e
 accepted_sound t a (Withdraw amount) f s e = withdraw_sound t a s amount e
@@ -44,8 +44,8 @@ step_sound t a entry f s = go (refusal_of t a entry f) refl
     after v = outcome v t a (tables_after t entry f) (account_after t a entry f)
 
     go : (v : Verdict) → refusal_of t a entry f ≡ v → Sound (after v).tables (after v).account
-    go Accepted e = accepted_sound t a entry f s e
-    go (Refused why) e = s
+    go (Ok tt) e = accepted_sound t a entry f s e
+    go (Err why) e = s
 
 pub run_sound : (t : Tables) (a : Account) (entries : List (Entry × Figures)) → Sound t a → AllSound (run t a entries)
 unfolding run

@@ -7,6 +7,8 @@ use lib.Dec.{eqb}
 use lib.IntN.{pos}
 use lib.Seq.{set_out}
 use lib.Signed.{le_z}
+use Rattle.std.specs.Prelude.{Ok, Option}
+use Rattle.terms.specs.Verdicts.{accept}
 use Rattle.terms.specs.Ranges.{range_of, ◌∈◌}
 use Rattle.terms.specs.declared.measure.Measure.TheVariants.{Money, Transfer}
 use Rattle.terms.specs.declared.refusal.Refusal.TheVariants.{OutOfRange, CeilingPassed, AvailablePassed, AlreadyWaiting}
@@ -18,8 +20,6 @@ use Rattle.account.specs.Sound.{Sound}
 use Rattle.account.specs.Transfers.{amount_allowed, deposit_verdict, deposit_change, withdraw_verdict, withdraw_change, pay_change, drop_change}
 use Rattle.account.specs.declared.account.Account.{Account}
 use Rattle.account.specs.declared.account.Sheet.{Sheet}
-use Rattle.terms.specs.declared.verdict.Verdict.TheVariants.{Accepted}
-use Rattle.account.specs.declared.judged.Waiting.{Waiting}
 use Rattle.account.specs.declared.tables.Tables.{Tables}
 use Rattle.account.proofs.Available.{reaches}
 use Rattle.account.proofs.Held.{Held, sound_held, unplaced_held, waiting_held}
@@ -32,7 +32,7 @@ pub record Asked (a : Account) (amount : ℕ) : Type 0 where
   pub none : a.waiting ≡ 0
   pub within : a.sheet.holds + a.sheet.margin + amount ≤ a.sheet.cash
 
-pub asked : (a : Account) (amount : ℕ) → withdraw_verdict a.sheet a.waiting amount ≡ Accepted → Asked a amount
+pub asked : (a : Account) (amount : ℕ) → withdraw_verdict a.sheet a.waiting amount ≡ accept → Asked a amount
 unfolding withdraw_verdict
 asked a amount e =
     let range = went_on (amount_allowed amount) OutOfRange _ e in
@@ -64,7 +64,7 @@ module _ {t : Tables} {a : Account} (held : Held t a) where
 
 module _ (t : Tables) (a : Account) (s : Sound t a) where
   -- no underlying has the number 8
-  money_sound : (sheet : Sheet) (waiting : Waiting) → Moneyed t a (applied a (of_sheet sheet waiting a.last)) → Sound t (applied a (of_sheet sheet waiting a.last))
+  money_sound : (sheet : Sheet) (waiting : (Option ℕ)) → Moneyed t a (applied a (of_sheet sheet waiting a.last)) → Sound t (applied a (of_sheet sheet waiting a.last))
   money_sound sheet waiting money =
       let after = waiting_after waiting a.waiting in
       let holdings = set_out a.holdings 8 no_holding (omega (arith, s.holding_rows)) in
@@ -74,7 +74,7 @@ module _ (t : Tables) (a : Account) (s : Sound t a) where
       (record { rows = s.holding_rows; bought = λ u. refl; units = s.units; locked = s.locked; no_more = s.no_more_holdings }) in
       subst (Sound t) (sym same) sound
 
-  pub deposit_sound : (amount : ℕ) → deposit_verdict a.sheet amount ≡ Accepted → Sound t (applied a (deposit_change a.sheet a.last amount))
+  pub deposit_sound : (amount : ℕ) → deposit_verdict a.sheet amount ≡ accept → Sound t (applied a (deposit_change a.sheet a.last amount))
   unfolding deposit_verdict deposit_change applied
   deposit_sound amount e =
       let total = a.sheet.cash + a.sheet.premium + amount in
@@ -83,7 +83,7 @@ module _ (t : Tables) (a : Account) (s : Sound t a) where
       let change = deposit_change a.sheet a.last amount in
       money_sound change.sheet change.waiting (record { ceiling = omega (arith, (inside total (range_of Money) ceiling).1); held = deposit_held (sound_held s) amount; waiting = s.waiting; margin = refl })
 
-  pub withdraw_sound : (amount : ℕ) → withdraw_verdict a.sheet a.waiting amount ≡ Accepted → Sound t (applied a (withdraw_change a.sheet a.last amount))
+  pub withdraw_sound : (amount : ℕ) → withdraw_verdict a.sheet a.waiting amount ≡ accept → Sound t (applied a (withdraw_change a.sheet a.last amount))
   unfolding withdraw_change applied
   withdraw_sound amount e =
       let passed = asked a amount e in

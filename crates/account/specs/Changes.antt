@@ -1,5 +1,6 @@
 -- What an accepted entry changes, and the account after it: the one place that says how an account changes within the day (house).
-use Rattle.std.specs.Prelude.{ℕ, set}
+use Rattle.std.specs.Prelude.{ℕ, set, Result, Ok, Err, Option, Some, None}
+use Rattle.terms.specs.declared.refusal.Refusal.{Refusal}
 use Rattle.account.specs.Rows.{free, no_position, no_holding, position, order}
 use Rattle.account.specs.Running.{closing, closing_moved, closing_of, free_moved, ordered, running, running_moved, running_of}
 use Rattle.terms.specs.declared.count.Position.{Position}
@@ -10,16 +11,13 @@ use Rattle.account.specs.declared.account.Sheet.{Sheet}
 use Rattle.account.specs.declared.judged.Change.{Change}
 use Rattle.account.specs.declared.judged.Decision.{Decision}
 use Rattle.account.specs.declared.judged.Decision.TheVariants as Decision·of
-use Rattle.terms.specs.declared.verdict.Verdict.{Verdict}
-use Rattle.terms.specs.declared.verdict.Verdict.TheVariants.{Accepted, Refused}
-use Rattle.account.specs.declared.judged.Waiting.{Waiting}
-use Rattle.account.specs.declared.judged.Waiting.TheVariants.{Stays, Becomes}
+use Rattle.terms.specs.Verdicts.{Verdict}
 use Rattle.account.specs.declared.running.Running.{Running}
 
 -- what waits after a change (house)
-abbrev pub waiting_after : Waiting → ℕ → ℕ
-waiting_after Stays before = before
-waiting_after (Becomes amount) before = amount
+abbrev pub waiting_after : Option ℕ → ℕ → ℕ
+waiting_after None before = before
+waiting_after (Some amount) before = amount
 
 -- the account with a change in it, and what is kept as it was (house)
 abbrev pub written : Account → Change → Account
@@ -65,7 +63,7 @@ applied a change =
     }
 
 -- a change that moves no position: money, one place and one underlying's holding; 64 is past the last contract and names none (house)
-abbrev pub without_position : Sheet → Waiting → ℕ → Resting → ℕ → ℕ → Holding → ℕ → Change
+abbrev pub without_position : Sheet → Option ℕ → ℕ → Resting → ℕ → ℕ → Holding → ℕ → Change
 without_position sheet waiting place order unit underlying holding last =
     record {
       sheet = sheet;
@@ -81,20 +79,14 @@ without_position sheet waiting place order unit underlying holding last =
     }
 
 -- a change of money alone: 32 and 8 are past the last place and underlying and name none either (house)
-abbrev pub of_sheet : Sheet → Waiting → ℕ → Change
+abbrev pub of_sheet : Sheet → Option ℕ → ℕ → Change
 of_sheet sheet waiting last = without_position sheet waiting 32 free 0 8 no_holding last
 
 -- what is decided: the refusal, or the change of an accepted entry; of an accepted day end, that the day ends (house)
-abbrev pub decided : Verdict → Change → Decision
-decided Accepted change = Decision·of.Changes change
-decided (Refused why) change = Decision·of.Refused why
+abbrev pub decided : Verdict → Change → Result Decision Refusal
+decided (Ok tt) change = Ok (Decision·of.Changes change)
+decided (Err why) change = Err why
 
-abbrev pub ending : Verdict → Decision
-ending Accepted = Decision·of.DayEnds
-ending (Refused why) = Decision·of.Refused why
-
--- the verdict that a decision tells (house)
-abbrev pub verdict_in : Decision → Verdict
-verdict_in (Decision·of.Refused why) = Refused why
-verdict_in (Decision·of.Changes change) = Accepted
-verdict_in Decision·of.DayEnds = Accepted
+abbrev pub ending : Verdict → Result Decision Refusal
+ending (Ok tt) = Ok Decision·of.DayEnds
+ending (Err why) = Err why

@@ -1,15 +1,14 @@
 -- "Which checks an order meets is one fixed table of six rows (kinds) by nine columns" (Refusal numbers).
-use Rattle.std.specs.Prelude.{ℕ, ◌+◌, ◌-◌, ◌*◌, Bool, true, false, not, ◌||◌, List, [], ◌∷◌, leb, ltb, eqb, pos, get_or}
+use Rattle.std.specs.Prelude.{ℕ, ◌+◌, ◌-◌, ◌*◌, Bool, true, false, not, ◌||◌, List, [], ◌∷◌, leb, ltb, eqb, pos, get_or, Ok}
 use Rattle.std.specs.Int.Signed.{le_z}
 use Rattle.terms.specs.Codes.{kind_code}
 use Rattle.terms.specs.declared.kind.OrderKind.{OrderKind}
 use Rattle.terms.specs.declared.refusal.Refusal.{Refusal}
 use Rattle.terms.specs.declared.refusal.Refusal.TheVariants.{OutOfRange, StaleNumber, OrdersFull, PositionTooSmall, RightsPassed, TotalPassed, DailyPassed, SpareTooFew, AvailablePassed}
 use Rattle.entries.specs.declared.entry.Order.{Order}
-use Rattle.terms.specs.Verdicts.{◌else◌then◌}
+use Rattle.terms.specs.Verdicts.{◌else◌then◌, accept}
 use Rattle.account.specs.declared.judged.Facts.{Facts}
-use Rattle.terms.specs.declared.verdict.Verdict.{Verdict}
-use Rattle.terms.specs.declared.verdict.Verdict.TheVariants.{Accepted}
+use Rattle.terms.specs.Verdicts.{Verdict}
 
 -- the nine columns, by what is checked (house)
 pub data Check : Type 0 where
@@ -86,7 +85,7 @@ meets kind check = get_or flags (9 * (kind_code kind - 1) + column_of check) fal
 
 -- the columns from left to right: the first that the order meets and fails gives the refusal (house)
 abbrev pub walked : List Check → Facts → Order → Verdict
-walked [] f o = Accepted
+walked [] f o = accept
 walked (check ∷ rest) f o = not (meets o.kind check) || passes check f o else refusal_for check then walked rest f o
 
 unfoldable pub order_verdict : Facts → Order → Verdict

@@ -1,5 +1,5 @@
 -- "Day end, in order", a definition for each step (Orders and fills; 002, questions 13 and 20).
-use Rattle.std.specs.Prelude.{ℕ, ◌+◌, cond, ◌&&◌, map, eqb, ltb, get_or, replicate}
+use Rattle.std.specs.Prelude.{ℕ, ◌+◌, cond, ◌&&◌, map, eqb, ltb, get_or, replicate, Ok}
 use Rattle.terms.specs.Listed.{listed, every}
 use Rattle.terms.specs.Ranges.{range_of, ◌∈◌}
 use Rattle.terms.specs.declared.measure.Measure.TheVariants.{Price, Settlement}
@@ -12,12 +12,11 @@ use Rattle.account.specs.Money.{margin_in}
 use Rattle.account.specs.Rows.{free, no_position, contract, underlying, holding}
 use Rattle.account.specs.Running.{all_free, running_in}
 use Rattle.account.specs.Totals.{covered_units}
-use Rattle.terms.specs.Verdicts.{◌else◌then◌}
+use Rattle.terms.specs.Verdicts.{◌else◌then◌, accept}
 use Rattle.account.specs.declared.account.Account.{Account}
 use Rattle.account.specs.declared.account.Holding.{Holding}
 use Rattle.account.specs.declared.account.Sheet.{Sheet}
-use Rattle.terms.specs.declared.verdict.Verdict.{Verdict}
-use Rattle.terms.specs.declared.verdict.Verdict.TheVariants.{Accepted}
+use Rattle.terms.specs.Verdicts.{Verdict}
 use Rattle.account.specs.declared.tables.Tables.{Tables}
 
 -- the figures beside a day end, by the number of their contract and of their underlying (Records, kind 8)
@@ -31,7 +30,7 @@ close_of f u = get_or f.closes u 0
 unfoldable pub day_end_verdict : Tables → ℕ → ℕ → Figures → Verdict
 day_end_verdict t n m f =
     eqb n t.n && eqb m t.m && every n (λ c. settlement_of f c ∈ range_of Settlement) && every m (λ u. close_of f u ∈ range_of Price)
-    else OutOfRange then Accepted
+    else OutOfRange then accept
 
 -- an account with another sheet, and one with other holdings, all else the same (house)
 abbrev pub with_sheet : Account → Sheet → Account

@@ -1,5 +1,5 @@
 -- Fills and cancels: both name a resting order by its number and are judged by it (Orders and fills; Refusal numbers: "Fill: 7, 16, 15, 18. Cancel: 7.", and 18 no more: #112).
-use Rattle.std.specs.Prelude.{ℕ, ◌+◌, ◌-◌, Bool, true, false, cond, not, ◌&&◌, ◌||◌, eqb, leb, ltb}
+use Rattle.std.specs.Prelude.{ℕ, ◌+◌, ◌-◌, Bool, true, false, cond, not, ◌&&◌, ◌||◌, eqb, leb, ltb, Ok, None}
 use Rattle.terms.specs.Kinds.{moves_of, opens_of, buys_of}
 use Rattle.terms.specs.Ranges.{range_of, ◌∈◌}
 use Rattle.terms.specs.declared.count.Position.{Position}
@@ -17,15 +17,13 @@ use Rattle.account.specs.Money.{hold_one, kind_of, margin_one}
 use Rattle.account.specs.Rows.{free, contract, position, holding, order}
 use Rattle.terms.specs.Sums.{lowest, ◌when◌}
 use Rattle.account.specs.Totals.{is_kind}
-use Rattle.terms.specs.Verdicts.{◌else◌then◌}
+use Rattle.terms.specs.Verdicts.{◌else◌then◌, accept}
 use Rattle.account.specs.declared.account.Account.{Account}
 use Rattle.account.specs.declared.account.Resting.{Resting}
 use Rattle.account.specs.declared.account.Sheet.{Sheet}
 use Rattle.account.specs.declared.judged.Change.{Change}
 use Rattle.account.specs.declared.judged.Named.{Named}
-use Rattle.terms.specs.declared.verdict.Verdict.{Verdict}
-use Rattle.terms.specs.declared.verdict.Verdict.TheVariants.{Accepted}
-use Rattle.account.specs.declared.judged.Waiting.TheVariants.{Stays}
+use Rattle.terms.specs.Verdicts.{Verdict}
 use Rattle.account.specs.declared.tables.Tables.{Tables}
 
 -- the place of the resting order with a number, 32 where none has it; 0 is no order's number (Refusal numbers, 7)
@@ -70,7 +68,7 @@ fill_verdict f fill =
     ltb f.place 32 else NoSuchOrder then
     leb fill.quantity f.order.left.0 && price_allowed buys f.order.price fill.price else FillBarred then
     buys || (f.sheet.cash + f.sheet.premium + paid f fill ∈ range_of Money) else CeilingPassed then
-    Accepted
+    accept
 
 -- an open adds to what it moves, a close takes off (Orders and fills)
 abbrev pub shifted : Bool → ℕ → ℕ → ℕ
@@ -122,7 +120,7 @@ fill_change f fill =
     let kind = kind_of f.order in
     record {
       sheet = sheet_after f fill kind;
-      waiting = Stays;
+      waiting = None;
       contract = f.order.contract;
       position = moved (moves_of kind) (opens_of kind) fill.quantity f.position;
       place = f.place;
@@ -135,7 +133,7 @@ fill_change f fill =
 
 -- "Cancel: 7" (Refusal numbers)
 unfoldable pub cancel_verdict : Named → Verdict
-cancel_verdict f = ltb f.place 32 else NoSuchOrder then Accepted
+cancel_verdict f = ltb f.place 32 else NoSuchOrder then accept
 
 -- what a cancel changes: the place is free, the rest of the hold is freed, "cancelled remainders taken off" the daily count (001, chapter five)
 unfoldable pub cancel_change : Named → Change
@@ -144,7 +142,7 @@ cancel_change f =
     let s = f.sheet in
     without_position
     (record { cash = s.cash; premium = s.premium; holds = s.holds - for_count left f.hold; margin = s.margin })
-    Stays
+    None
     f.place
     free
     f.unit

@@ -1,10 +1,10 @@
 -- The money sheet: what one contract costs at the figures in force, holds, margin, available (The account; Orders and fills).
-use Rattle.std.specs.Prelude.{ℕ, ◌+◌, ℤ, pos, ◌-ℤ◌}
+use Rattle.std.specs.Prelude.{ℕ, ◌+◌, ℤ, pos, ◌-ℤ◌, Result, Ok, Err}
+use Rattle.terms.specs.Codes.{not_listed}
+use Rattle.terms.specs.declared.unlisted.Unlisted.{Unlisted}
 use Rattle.terms.specs.Codes.{kind_coded}
 use Rattle.terms.specs.declared.kind.OrderKind.{OrderKind}
 use Rattle.terms.specs.declared.kind.OrderKind.TheVariants.{BuyOpen, SellClose, SellOpen, BuyClose, CoveredOpen, CoveredClose}
-use Rattle.terms.specs.declared.kind.OrderKindCoded.{OrderKindCoded}
-use Rattle.terms.specs.declared.kind.OrderKindCoded.TheVariants.{Listed, Unlisted}
 use Rattle.rules.specs.Count.{for_count}
 use Rattle.rules.specs.Margin.{margin_of, rates_of}
 use Rattle.rules.specs.Premium.{premium_of}
@@ -39,9 +39,9 @@ abbrev pub hold_one : Tables → OrderKind → ℕ → ℕ → ℕ
 hold_one t kind c price = hold_by kind (contract t c) (underlying t (contract t c).underlying) price
 
 -- the kind of an order that rests; what is said of a free place does not matter, since nothing is left there (house)
-abbrev pub answered : OrderKindCoded → OrderKind
-answered (Listed kind) = kind
-answered Unlisted = BuyOpen
+abbrev pub answered : Result OrderKind Unlisted → OrderKind
+answered (Ok kind) = kind
+answered (Err none) = BuyOpen
 
 abbrev pub kind_of : Resting → OrderKind
 kind_of r = answered (kind_coded r.kind)

@@ -1,5 +1,5 @@
 -- An order: the facts it is judged by, and what it changes where it is accepted (Orders and fills). Its checks are in Checks.
-use Rattle.std.specs.Prelude.{ℕ, ◌+◌, Bool, true, false, cond, not, ◌&&◌, eqb, ltb, pos}
+use Rattle.std.specs.Prelude.{ℕ, ◌+◌, Bool, true, false, cond, not, ◌&&◌, eqb, ltb, pos, None}
 use Rattle.terms.specs.Codes.{kind_code}
 use Rattle.terms.specs.Counts.{units_for}
 use Rattle.terms.specs.Kinds.{moves_of}
@@ -24,7 +24,6 @@ use Rattle.account.specs.declared.account.Resting.{Resting}
 use Rattle.account.specs.declared.account.Sheet.{Sheet}
 use Rattle.account.specs.declared.judged.Change.{Change}
 use Rattle.account.specs.declared.judged.Facts.{Facts}
-use Rattle.account.specs.declared.judged.Waiting.TheVariants.{Stays}
 use Rattle.account.specs.declared.tables.Tables.{Tables}
 
 -- "covered is for calls only", "covered kind on a put" (The account; Refusal numbers, 4)
@@ -116,4 +115,4 @@ with_bought f o =
 
 -- what an accepted order changes: its place, the holds, the daily count and the last accepted number (house)
 unfoldable pub order_change : Facts → Order → Change
-order_change f o = without_position (with_hold f) Stays f.place (rested o) f.unit f.underlying (with_bought f o) o.number
+order_change f o = without_position (with_hold f) None f.place (rested o) f.unit f.underlying (with_bought f o) o.number

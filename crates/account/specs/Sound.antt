@@ -1,10 +1,9 @@
 -- What an account from an opening and accepted entries satisfies: demand 2 about holds, margins and limits, and what the step's safety rests on.
-use Rattle.std.specs.Prelude.{ℕ, ◌+◌, ◌*◌, ◌≤◌, ◌<◌, Bool, true, false, ◌&&◌, ◌≡◌, List, [], ◌∷◌, ltb, length}
+use Rattle.std.specs.Prelude.{ℕ, ◌+◌, ◌*◌, ◌≤◌, ◌<◌, Bool, true, false, ◌&&◌, ◌≡◌, List, [], ◌∷◌, ltb, length, Ok}
 use Rattle.terms.specs.Kinds.{moves_of, opens_of}
 use Rattle.terms.specs.Ranges.{range_of, unit_allowed, ◌∈◌}
 use Rattle.terms.specs.declared.kind.OrderKind.{OrderKind}
 use Rattle.terms.specs.declared.kind.OrderKind.TheVariants.{BuyOpen}
-use Rattle.terms.specs.declared.kind.OrderKindCoded.TheVariants.{Listed}
 use Rattle.terms.specs.declared.measure.Measure.TheVariants.{Price, Settlement, Limit}
 use Rattle.terms.specs.declared.right.Right.TheVariants.{Put}
 use Rattle.terms.specs.Codes.{kind_coded}
@@ -44,7 +43,7 @@ as_order r = record { number = r.number; contract = r.contract; kind = kind_of r
 
 -- an order as it may rest (house)
 pub record SoundOrder (t : Tables) (last : ℕ) (r : Resting) : Type 0 where
-  pub listed : kind_coded r.kind ≡ Listed (kind_of r)  -- its kind is one of the six, so its hold and reserve are known
+  pub listed : kind_coded r.kind ≡ Ok (kind_of r)  -- its kind is one of the six, so its hold and reserve are known
   pub allowed : order_allowed t (as_order r) ≡ true  -- what is left and the price are in range, so holds stay small
   pub accepted : r.number ≤ last  -- a number above the last accepted is new
 

@@ -1,5 +1,5 @@
 -- An entry on tables and account, and a list of them: the verdict, and tables and account after it (Refusal numbers; Records).
-use Rattle.std.specs.Prelude.{cond, List, [], ◌∷◌}
+use Rattle.std.specs.Prelude.{cond, List, [], ◌∷◌, Ok, Err, None}
 use Rattle.terms.specs.declared.refusal.Refusal.TheVariants.{OutOfPlace}
 use Rattle.entries.specs.Entries.{kind_of}
 use Rattle.entries.specs.Table.{is_day_end}
@@ -18,9 +18,7 @@ use Rattle.account.specs.Transfers.{deposit_verdict, deposit_change, withdraw_ve
 use Rattle.account.specs.declared.account.Account.{Account}
 use Rattle.account.specs.declared.judged.Change.{Change}
 use Rattle.account.specs.declared.judged.Outcome.{Outcome}
-use Rattle.terms.specs.declared.verdict.Verdict.{Verdict}
-use Rattle.terms.specs.declared.verdict.Verdict.TheVariants.{Accepted, Refused}
-use Rattle.account.specs.declared.judged.Waiting.TheVariants.{Stays}
+use Rattle.terms.specs.Verdicts.{Verdict, accept}
 use Rattle.account.specs.declared.tables.Tables.{Tables}
 
 -- the verdict on an entry, once the account is open; "record out of its place": set-up has ended (Refusal numbers, 5)
@@ -35,13 +33,13 @@ refusal_of t a (Cancel number) f = cancel_verdict (named t a number)
 refusal_of t a (DayEnd n m) f = day_end_verdict t n m f
 refusal_of t a Pay f = payout_verdict a.waiting
 refusal_of t a Drop f = payout_verdict a.waiting
-refusal_of t a (Underlying row) f = Refused OutOfPlace
-refusal_of t a (Contract row) f = Refused OutOfPlace
-refusal_of t a (Opening cash) f = Refused OutOfPlace
+refusal_of t a (Underlying row) f = Err OutOfPlace
+refusal_of t a (Contract row) f = Err OutOfPlace
+refusal_of t a (Opening cash) f = Err OutOfPlace
 
 -- what an accepted entry changes; a day end changes more than one row, and set-up has ended: of these no change is ever applied (house)
 abbrev pub unchanged : Account → Change
-unchanged a = of_sheet a.sheet Stays a.last
+unchanged a = of_sheet a.sheet None a.last
 
 abbrev pub change_of : Tables → Account → Entry → Change
 change_of t a (Deposit amount) = deposit_change a.sheet a.last amount
@@ -67,8 +65,8 @@ account_after t a entry f = cond (is_day_end (kind_of entry)) (day_ended (figure
 
 -- "a refusal leaves the whole account equal" (Refusal numbers)
 abbrev pub outcome : Verdict → Tables → Account → Tables → Account → Outcome
-outcome Accepted t a t' a' = record { verdict = Accepted; tables = t'; account = a' }
-outcome (Refused why) t a t' a' = record { verdict = Refused why; tables = t; account = a }
+outcome (Ok tt) t a t' a' = record { verdict = accept; tables = t'; account = a' }
+outcome (Err why) t a t' a' = record { verdict = Err why; tables = t; account = a }
 
 unfoldable pub step : Tables → Account → Entry → Figures → Outcome
 step t a e f = outcome (refusal_of t a e f) t a (tables_after t e f) (account_after t a e f)

@@ -3,19 +3,22 @@ ghost use Rattle.std.specs.Prelude.{◌≡◌, ◌^◌, ◌<◌};
 ghost use Rattle.account.specs.Changes.{applied, written};
 ghost use Rattle.account.specs.Room.{Movable, Moves};
 ghost use Rattle.account.specs.Opening.{opening};
-ghost use Rattle.account.specs.Rows.{free, order, position};
+ghost use Rattle.account.specs.Rows.{free};
 ghost use Rattle.account.specs.Running.{free_at, free_moved, ordered};
+ghost use Rattle.account.specs.Totals.{is_kind, is_open};
 
 use crate::judged::Change;
+use crate::numbered::{put, row};
 use crate::running::{Running, closing_changed};
-use crate::term::counted_u32;
-use terms::{Contracts, Position, Units};
+use crate::term::counted;
+use terms::{Contracts, OrderKind, Position, Units};
 
 // All 32 places are free, as binary digits.
 pub const ALL_FREE: u32 = 4_294_967_295;
 
-// The money sheet, in fen. Covered premium is what was received today for covered opening.
-#[derive(Clone, Copy)]
+// The money sheet, in fen. Covered premium is what was received today for covered opening. That it is sound is asked where it matters and no
+// ghost field: postings are stated of any sheet (`posted_one`).
+#[derive(Clone, Copy, Default)]
 pub struct Sheet {
     pub cash: u64,
     pub premium: u64,
@@ -23,8 +26,8 @@ pub struct Sheet {
     pub margin: u64,
 }
 
-// An order that rests, or a free place. The kind is the paper's number, 1 to 6, so that a free place can be all zero.
-#[derive(Clone, Copy)]
+// An order that rests, or a free place. The kind is the paper's number, 1 to 6, since document 01 has a free place all zero (`free`).
+#[derive(Clone, Copy, Default)]
 pub struct Resting {
     pub number: u32,
     pub contract: u16,
@@ -37,26 +40,34 @@ impl Resting {
     pub fn free() -> Resting
         ensures { result ≡ free }
     {
-        Resting {
-            number: 0,
-            contract: 0,
-            kind: 0,
-            left: Contracts(0),
-            price: 0,
-        }
+        Resting::default()
+    }
+
+    pub fn is(self, kind: OrderKind) -> bool
+        ensures { result ≡ is_kind kind self.kind }
+    {
+        self.kind == u16::from(kind)
+    }
+
+    pub(crate) fn opens(self) -> bool
+        ensures { result ≡ is_open self.kind }
+    {
+        self.is(OrderKind::BuyOpen)
+            || self.is(OrderKind::SellOpen)
+            || self.is(OrderKind::CoveredOpen)
     }
 }
 
 // What stands for one underlying: its locked units, and how many contracts were bought open today.
-#[derive(Clone, Copy)]
+#[derive(Clone, Copy, Default)]
 pub struct Holding {
     pub locked: Units,
     pub bought: Contracts,
 }
 
-// One request for a payout may wait; 0 where none does, since an amount that is asked for is at least 1. Running totals of each underlying,
+// One request for a payout may wait; 0 where none does, since an amount that is asked for is at least 1: a number, as a term of the holds is. Running totals of each underlying,
 // resting closes on each contract, by the count that they close, and the free places, a binary digit for each, are kept as we go: they
-// could be summed from positions and orders, which is what they are proved to be.
+// could be summed from positions and orders, which is what they are proved to be. Arrays of structs, as document 01 names the form.
 #[derive(Clone, Copy)]
 pub struct Account {
     pub sheet: Sheet,
@@ -75,33 +86,17 @@ impl Account {
     pub fn opening(cash: u64) -> Account
         ensures { result ≡ opening cash }
     {
-        let nothing = Position {
-            long: Contracts(0),
-            short: Contracts(0),
-            covered: Contracts(0),
-        };
         Account {
             sheet: Sheet {
                 cash,
-                premium: 0,
-                holds: 0,
-                margin: 0,
+                ..Sheet::default()
             },
             waiting: 0,
-            positions: [nothing; terms::CONTRACTS],
+            positions: [Position::default(); terms::CONTRACTS],
             orders: [Resting::free(); terms::PLACES],
-            holdings: [Holding {
-                locked: Units(0),
-                bought: Contracts(0),
-            }; terms::UNDERLYINGS],
-            running: [Running {
-                long: Contracts(0),
-                total: Contracts(0),
-                buys: Contracts(0),
-                opens: Contracts(0),
-                taken: Units(0),
-            }; terms::UNDERLYINGS],
-            closing: [nothing; terms::CONTRACTS],
+            holdings: [Holding::default(); terms::UNDERLYINGS],
+            running: [Running::default(); terms::UNDERLYINGS],
+            closing: [Position::default(); terms::CONTRACTS],
             free: ALL_FREE,
             last: 0,
         }
@@ -109,65 +104,43 @@ impl Account {
 
     // The one place that writes a change into an account: what changed, and what is kept of it, which moves by what stood there and what
     // stands there now. A number past the last contract, place or underlying names none: what it would write is not there.
-    pub fn apply(mut self, change: Change) -> Account
-        requires { Movable self change }
-        ensures { result ≡ applied self change }
+    #[tactic(auto, unfolding(crate::specs::Changes::applied))]
+    pub fn apply(&mut self, change: Change)
+        requires { Movable self.old change }
+        ensures { self.new ≡ applied self.old change }
     {
-        let position = change.position;
-        let order = change.order;
-        let mut was = Position {
-            long: Contracts(0),
-            short: Contracts(0),
-            covered: Contracts(0),
-        };
-        let c = change.contract;
-        if c < terms::CONTRACTS {
-            was = self.positions[c];
-        }
-        let mut had = Resting::free();
-        let i = change.place;
-        if i < terms::PLACES {
-            had = self.orders[i];
-        }
-        self.free = free_moved(self.free, i, had, order);
-        let o = ordered(had, order);
-        if o < terms::CONTRACTS {
-            let closing = self.closing[o];
-            self.closing[o] = closing_changed(closing, had, order);
-        }
+        let was = row(&self.positions, change.contract, Position::default());
+        let had = row(&self.orders, change.place, Resting::free());
+        let o = ordered(had, change.order);
         let u = change.underlying;
-        if u < terms::UNDERLYINGS {
-            let running = self.running[u];
-            self.running[u] = running.changed(change.unit, was, had, position, order);
-        }
-        self.written(change)
+        let closing = closing_changed(
+            row(&self.closing, o, Position::default()),
+            had,
+            change.order,
+        );
+        let running = row(&self.running, u, Running::default()).changed(
+            change.unit,
+            was,
+            had,
+            change.position,
+            change.order,
+        );
+        self.free = free_moved(self.free, change.place, had, change.order);
+        put(&mut self.closing, o, closing);
+        put(&mut self.running, u, running);
+        self.write(change);
     }
 
     // The change alone, with all that is kept as it was.
-    fn written(mut self, change: Change) -> Account
-        ensures { result ≡ written self change }
+    fn write(&mut self, change: Change)
+        ensures { self.new ≡ written self.old change }
     {
-        let c = change.contract;
-        let position = change.position;
-        if c < terms::CONTRACTS {
-            self.positions[c] = position;
-        }
-        let i = change.place;
-        let order = change.order;
-        if i < terms::PLACES {
-            self.orders[i] = order;
-        }
-        let u = change.underlying;
-        let holding = change.holding;
-        if u < terms::UNDERLYINGS {
-            self.holdings[u] = holding;
-        }
-        let sheet = change.sheet;
-        self.sheet = sheet;
-        let waiting = change.waiting;
-        self.waiting = waiting.after(self.waiting);
+        put(&mut self.positions, change.contract, change.position);
+        put(&mut self.orders, change.place, change.order);
+        put(&mut self.holdings, change.underlying, change.holding);
+        self.sheet = change.sheet;
+        self.waiting = change.waiting.unwrap_or(self.waiting);
         self.last = change.last;
-        self
     }
 }
 
@@ -189,7 +162,7 @@ fn free_moved(free: u32, place: usize, old: Resting, new: Resting) -> u32
 {
     if place < terms::PLACES {
         let digit = digit(place);
-        free - counted_u32(digit, old.number == 0) + counted_u32(digit, new.number == 0)
+        free - counted(digit, old.number == 0) + counted(digit, new.number == 0)
     } else {
         free
     }

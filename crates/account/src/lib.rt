@@ -3,12 +3,13 @@
 
 mod account;
 mod judged;
+mod numbered;
 mod running;
 mod tables;
 mod term;
 
 pub use account::{ALL_FREE, Account, Holding, Resting, Sheet};
-pub use judged::{Change, Decision, Facts, Named, Outcome, Seen, Waiting};
+pub use judged::{Change, Decision, Facts, Named, Outcome, Seen};
 pub use running::Running;
 pub use tables::Tables;
-pub use term::counted;
+pub use term::{Term, counted};

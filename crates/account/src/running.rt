@@ -1,17 +1,16 @@
 // What is kept as we go: totals of an underlying, and closes that rest on a contract. Where a position or an order changes, what stood there
 // is taken off and what stands there is put on.
 ghost use Rattle.std.specs.Prelude.{◌≡◌};
-ghost use Rattle.account.specs.Running.{closing_moved, closing_of, running_moved, running_of};
-ghost use Rattle.account.specs.Room.{ClosingMoves, RunningFits, RunningMoves};
-ghost use Rattle.account.specs.Totals.{is_open};
+ghost use Rattle.account.specs.Running.{closing_moved, closing_of, instead, running_moved, running_of};
+ghost use Rattle.account.specs.Room.{ClosingMoves, Moves, RunningFits, RunningMoves};
 
 use crate::account::Resting;
-use crate::term::{counted, counted_u32};
-use terms::{Contracts, Position, Units};
+use crate::term::counted;
+use terms::{Contracts, OrderKind, Position, Units};
 
 // Of one underlying: contracts long, all that counts against the total limit, what is left of resting buy opens and of all resting opens, and
 // the units that cover or are reserved.
-#[derive(Clone, Copy)]
+#[derive(Clone, Copy, Default)]
 pub struct Running {
     pub long: Contracts,
     pub total: Contracts,
@@ -21,24 +20,20 @@ pub struct Running {
 }
 
 impl Running {
-    // What a position and an order count for, their contract being of so many units.
+    // What a position and an order count for, their contract being of so many units: the definition's three (`running_of`).
     fn of(position: Position, order: Resting, unit: u32) -> Running
         requires { RunningFits (running_of position order unit) }
         ensures { result ≡ running_of position order unit }
     {
-        let long = position.long;
-        let short = position.short;
-        let covered = position.covered;
         let left = order.left;
-        let opens = counted_u32(left.0, is_open(order.kind));
-        let cover = covered.units(unit);
-        let reserve = left.units(unit);
+        let opens = counted(left.0, order.opens());
+        let reserved = Contracts(counted(left.0, order.is(OrderKind::CoveredOpen)));
         Running {
-            long,
-            total: Contracts(long.0 + short.0 + covered.0 + opens),
-            buys: Contracts(counted_u32(left.0, order.kind == 1)),
+            long: position.long,
+            total: Contracts(position.long.0 + position.short.0 + position.covered.0 + opens),
+            buys: Contracts(counted(left.0, order.is(OrderKind::BuyOpen))),
             opens: Contracts(opens),
-            taken: Units(cover.0 + counted(reserve.0, order.kind == 5)),
+            taken: Units(position.covered.units(unit).0 + reserved.units(unit).0),
         }
     }
 
@@ -64,19 +59,13 @@ impl Running {
         ensures { result ≡ running_moved self old new }
     {
         Running {
-            long: Contracts(self.long.0 - old.long.0 + new.long.0),
-            total: Contracts(self.total.0 - old.total.0 + new.total.0),
-            buys: Contracts(self.buys.0 - old.buys.0 + new.buys.0),
-            opens: Contracts(self.opens.0 - old.opens.0 + new.opens.0),
+            long: instead(self.long, old.long, new.long),
+            total: instead(self.total, old.total, new.total),
+            buys: instead(self.buys, old.buys, new.buys),
+            opens: instead(self.opens, old.opens, new.opens),
             taken: Units(self.taken.0 - old.taken.0 + new.taken.0),
         }
     }
-}
-
-fn is_open(kind: u16) -> bool
-    ensures { result ≡ is_open kind }
-{
-    (kind == 1) | (kind == 3) | (kind == 5)
 }
 
 // What an order counts for among the closes that rest on its contract, by the count that it closes.
@@ -85,9 +74,9 @@ fn closes(order: Resting) -> Position
 {
     let left = order.left;
     Position {
-        long: Contracts(counted_u32(left.0, order.kind == 2)),
-        short: Contracts(counted_u32(left.0, order.kind == 4)),
-        covered: Contracts(counted_u32(left.0, order.kind == 6)),
+        long: Contracts(counted(left.0, order.is(OrderKind::SellClose))),
+        short: Contracts(counted(left.0, order.is(OrderKind::BuyClose))),
+        covered: Contracts(counted(left.0, order.is(OrderKind::CoveredClose))),
     }
 }
 
@@ -104,8 +93,16 @@ fn closing_moved(closing: Position, old: Position, new: Position) -> Position
     ensures { result ≡ closing_moved closing old new }
 {
     Position {
-        long: Contracts(closing.long.0 - old.long.0 + new.long.0),
-        short: Contracts(closing.short.0 - old.short.0 + new.short.0),
-        covered: Contracts(closing.covered.0 - old.covered.0 + new.covered.0),
+        long: instead(closing.long, old.long, new.long),
+        short: instead(closing.short, old.short, new.short),
+        covered: instead(closing.covered, old.covered, new.covered),
     }
+}
+
+// A sum in which one term is another.
+fn instead(kept: Contracts, old: Contracts, new: Contracts) -> Contracts
+    requires { Moves 32 kept.0 old.0 new.0 }
+    ensures { result.0 ≡ instead kept.0 old.0 new.0 }
+{
+    Contracts(kept.0 - old.0 + new.0)
 }

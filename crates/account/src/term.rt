@@ -1,15 +1,33 @@
-// A term of a sum, which counts only where a test holds; of 64 binary digits, and of 32.
-ghost use Rattle.std.specs.Prelude.{◌≡◌};
+// A term of a sum, which counts only where a test holds.
+ghost use Rattle.std.specs.Prelude.{◌≡◌, ℕ};
 ghost use Rattle.terms.specs.Sums.{◌when◌};
 
-pub fn counted(x: u64, test: bool) -> u64
-    ensures { result ≡ (x when test) }
-{
-    if test { x } else { 0 }
+// A number that sums are made of, at any width.
+pub trait Term: Copy {
+    ghost value: { Self → ℕ };
+
+    fn nothing() -> Self
+        ensures { value result ≡ 0 };
 }
 
-pub(crate) fn counted_u32(x: u32, test: bool) -> u32
-    ensures { result ≡ (x when test) }
+impl Term for u32 {
+    ghost value = { λ x. x };
+
+    fn nothing() -> u32 {
+        0
+    }
+}
+
+impl Term for u64 {
+    ghost value = { λ x. x };
+
+    fn nothing() -> u64 {
+        0
+    }
+}
+
+pub fn counted<N: Term>(x: N, test: bool) -> N
+    ensures { N.value result ≡ (N.value x when test) }
 {
-    if test { x } else { 0 }
+    if test { x } else { N::nothing() }
 }

@@ -1,4 +1,5 @@
-// What programs in C and Rust link: the functions of `archive`, under the names that the static library gives them.
+// What programs in C and Rust link: the functions of `archive`, under the names that the static library gives them. The C interface needs
+// the function a second time: no crate can stand on a static library.
 #![tactic(auto)]
 
 ghost use Rattle.std.specs.Prelude.{◌≡◌, length};

@@ -1,19 +1,18 @@
 -- Whole parts and fractions are E x s divided by T, with rest. All of them together are E x T divided so: the whole parts add up to at most E, and the fractions to as many times T as contracts are left. A whole part is at most s, since E is at most T, and below it where there is a fraction.
 use mathlib.Core.Path.{◌≡◌, refl, ap, ◌∙◌}
-use mathlib.Core.Bool.{true, ◌&&◌}
+use mathlib.Core.Bool.{true}
 use mathlib.Core.List.{List}
 use Prim.Native.Nat.{ℕ, zero, suc, ◌+◌, ◌*◌, ◌/◌, ◌≤◌, ◌<◌}
 use native.Mathlib.Nat.{add-mul, mul-add, mul_comm, mul-le-mul_right, div-add-mod', div-zero, div-le_of_le-mul, mod-lt, le_of_mul-le-mul_right, lt_of_mul-lt-mul_left}
 use native.Mathlib.Omega.{arith}
-use borrow.Author.Tests.{leb-true, eqb-true}
-use lib.Dec.{eqb, leb}
 use lib.ListN.{length}
+use Rattle.std.proofs.lemmas.Bool.Decides.{nat_tests}
 use Rattle.terms.specs.Listed.{every}
 use Rattle.terms.specs.Ranges.{range_of, ◌∈◌}
 use Rattle.terms.specs.Sums.{Σ}
-use Rattle.terms.specs.declared.measure.Measure.TheVariants.{Accounts, NetTotal}
+use Rattle.terms.specs.declared.measure.Measure.TheVariants.{NetTotal}
 use Rattle.terms.proofs.Listed.{each_passes}
-use Rattle.terms.proofs.Ranges.{first_holds, second_holds, inside}
+use Rattle.terms.proofs.Ranges.{inside}
 use Rattle.terms.proofs.Sums.{Σ-none}
 use Rattle.assignment.specs.Assignment.{net_total, all_totals, accounts_allowed, assign_allowed, whole_part, fraction, leftover}
 
@@ -28,18 +27,12 @@ module _ (E : ℕ) (short covered : List ℕ) where
   pub allowed : assign_allowed E short covered ≡ true → Allowed E short covered
   unfolding assign_allowed accounts_allowed
   allowed h =
-      let accounts = accounts_allowed short covered in
-      let enough = leb E (all_totals short covered) in
-      let same = eqb (length short) (length covered) in
-      let few = length short ∈ range_of Accounts in
-      let small = every (length short) (λ i. net_total short covered i ∈ range_of NetTotal) in
-      let ok = first_holds accounts enough h in
-      let sized = first_holds (same && few) small ok in
+      let each : every (length short) (λ i. net_total short covered i ∈ range_of NetTotal) ≡ true = grind (arith, nat_tests) in
       record {
-        both = eqb-true _ _ (first_holds same few sized);
-        few = (inside (length short) (range_of Accounts) (second_holds same few sized)).1;
-        small = λ i there. (inside (net_total short covered i) (range_of NetTotal) (each_passes (length short) _ (second_holds (same && few) small ok) i there)).1;
-        enough = leb-true _ _ (second_holds accounts enough h);
+        both = grind (arith, nat_tests);
+        few = grind (arith, nat_tests);
+        small = λ i there. (inside (net_total short covered i) (range_of NetTotal) (each_passes (length short) _ each i there)).1;
+        enough = grind (arith, nat_tests);
       }
 
   abbrev s : ℕ → ℕ

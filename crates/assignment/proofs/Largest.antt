@@ -1,15 +1,19 @@
 -- The account that `largest` gives is among the accounts, none has a larger fraction, and those before it have a smaller one: by induction on the accounts, since the first gives way only to a later one that is larger.
-use mathlib.Core.Path.{◌≡◌, refl, sym, ap, ◌∙◌}
+use mathlib.Core.Path.{◌≡◌, refl}
 use mathlib.Core.Bool.{Bool, true, false, cond}
 use mathlib.Core.List.{List, [], ◌∷◌}
-use Prim.Native.Nat.{ℕ, zero, suc, ◌+◌, ◌≤◌, ◌<◌}
+use Prim.Native.Nat.{ℕ, zero, suc, ◌≤◌, ◌<◌}
 use native.Mathlib.Nat.{not-suc-le-zero}
 use native.Mathlib.Decide.{dec_lt}
 use native.Mathlib.Omega.{arith}
-use borrow.Author.Tests.{leb-true, leb-false, le-leb, lt-leb}
-use lib.Dec.{leb}
-use lib.ListN.{length, get_or, drop, drop_of_length-le, get_or-eq_default}
-use lib.Seq.{drop-cons, get_or-drop}
+use borrow.Author.Tests.{leb-true, leb-false}
+use lib.Dec.{leb, ltb}
+use lib.ListN.{length, get_or, get_or-eq_default}
+use Rattle.std.specs.Cmp.{IsStrictWeakOrder}
+use Rattle.std.specs.List.{IsFirstBest}
+use Rattle.std.proofs.lemmas.Bool.Decides.{nat_tests}
+use Rattle.std.proofs.lemmas.Grind.{get_or_default_zero}
+use Rattle.std.proofs.lemmas.List.MinMax.{IsFirstBest-unique, IsStrictWeakOrder-by_number, IsStrictWeakOrder-flip}
 use Rattle.assignment.specs.Assignment.{largest}
 
 pub record First (fractions : List ℕ) (best : ℕ) : Type 0 where
@@ -46,31 +50,21 @@ has_place fractions i some =
       | no h ↦ let past : length fractions ≤ i = omega (arith, h) in let none = get_or-eq_default fractions 0 past in absurd (omega (arith, some, none))
     ]
 
--- from the last account to the first: of those from k on, the one at k or the best of those behind it
-module _ (fractions : List ℕ) (k behind : ℕ) (next : suc k ≡ behind) (inside : k < length fractions) where
-  opened : largest (drop k fractions) ≡ cond (leb (get_or (drop behind fractions) (largest (drop behind fractions)) 0) (get_or fractions k 0)) 0 (suc (largest (drop behind fractions)))
-  unfolding largest
-  opened =
-      ap largest (drop-cons fractions k 0 inside)
-      ∙ ap (λ (m : ℕ). cond (leb (get_or (drop m fractions) (largest (drop m fractions)) 0) (get_or fractions k 0)) 0 (suc (largest (drop m fractions)))) next
+-- the first of the largest is the one that `largest` gives, since there is one such place
+larger_first : IsStrictWeakOrder (λ (x y : ℕ). ltb y x)
+larger_first = IsStrictWeakOrder-flip (λ (x y : ℕ). ltb x y) (IsStrictWeakOrder-by_number (λ (x : ℕ). x))
 
-  pub last_alone : length fractions ≤ behind → k ≡ k + largest (drop k fractions)
-  unfolding largest
-  last_alone h =
-      let none : drop behind fractions ≡ [] = drop_of_length-le fractions h in
-      let here : largest (drop k fractions) ≡ 0 = opened ∙ rw none (rw (le-leb 0 (get_or fractions k 0) (omega arith))) in
-      omega (arith, here)
+its_place : (fractions : List ℕ) → 0 < length fractions → IsFirstBest (λ x y. ltb y x) fractions (length fractions) (largest fractions)
+its_place fractions some =
+    let is = first fractions in
+    let inside : largest fractions < length fractions =
+    elim (dec_lt 0 (largest fractions)) [
+      | yes h ↦ has_place fractions (largest fractions) (omega (arith, is.lower_smaller 0 h))
+      | no h ↦ omega (arith, h, some)
+    ] in
+    (inside, λ k d h. let none = is.none_larger k in grind (arith, nat_tests, get_or_default_zero), λ k d h. let less = is.lower_smaller k h in grind (arith, nat_tests, get_or_default_zero))
 
-  module _ (best : ℕ) (so_far : best ≡ behind + largest (drop behind fractions)) where
-    its_fraction : get_or (drop behind fractions) (largest (drop behind fractions)) 0 ≡ get_or fractions best 0
-    its_fraction = get_or-drop behind fractions (largest (drop behind fractions)) 0 ∙ ap (λ (i : ℕ). get_or fractions i 0) (sym so_far)
-
-    pub not_smaller : get_or fractions best 0 ≤ get_or fractions k 0 → k ≡ k + largest (drop k fractions)
-    not_smaller h =
-        let here : largest (drop k fractions) ≡ 0 = opened ∙ rw its_fraction (rw (le-leb _ _ h)) in
-        omega (arith, here)
-
-    pub smaller : get_or fractions k 0 < get_or fractions best 0 → best ≡ k + largest (drop k fractions)
-    smaller h =
-        let later : largest (drop k fractions) ≡ suc (largest (drop behind fractions)) = opened ∙ rw its_fraction (rw (lt-leb _ _ h)) in
-        omega (arith, later, so_far, next)
+pub first_best : (fractions : List ℕ) (i best : ℕ) → IsFirstBest (λ x y. ltb y x) fractions i best → i ≡ length fractions → best ≡ largest fractions
+first_best fractions i best is e =
+    let all : IsFirstBest (λ x y. ltb y x) fractions (length fractions) best = rw (← e) is in
+    IsFirstBest-unique larger_first fractions (length fractions) best (largest fractions) 0 all (its_place fractions (omega (arith, all.0)))

@@ -5,5 +5,4 @@ pub mod Filled
 pub mod HandedOut
 pub mod Largest
 pub mod Served
-pub mod Verdicts
 pub mod Within

@@ -1,10 +1,9 @@
 -- What an assignment is answered with, and what stands in the lent lists afterwards.
-use Rattle.std.specs.Prelude.{ℕ, ◌&&◌, List, ◌++◌, leb, length, get_or, drop}
+use Rattle.std.specs.Prelude.{ℕ, ◌&&◌, List, ◌++◌, leb, length, get_or, drop, Ok, Err}
 use Rattle.terms.specs.Listed.{listed}
-use Rattle.terms.specs.Verdicts.{◌else◌then◌}
+use Rattle.terms.specs.Verdicts.{◌else◌then◌, accept}
 use Rattle.terms.specs.declared.refusal.Refusal.TheVariants.{OutOfRange, BufferTooShort}
-use Rattle.terms.specs.declared.verdict.Verdict.{Verdict}
-use Rattle.terms.specs.declared.verdict.Verdict.TheVariants.{Accepted, Refused}
+use Rattle.terms.specs.Verdicts.{Verdict}
 use Rattle.assignment.specs.Assignment.{assign_allowed, covered_first, uncovered_then}
 
 -- "first 4"; then 17 where a lent list has fewer places than there are accounts (house)
@@ -12,7 +11,7 @@ unfoldable pub assign_verdict : ℕ → List ℕ → List ℕ → ℕ → ℕ �
 assign_verdict E short covered places places' =
     assign_allowed E short covered else OutOfRange then
     ((leb (length short) places && leb (length short) places') else BufferTooShort then
-    Accepted)
+    accept)
 
 -- of each account's share the covered contracts, and the others (#105)
 unfoldable pub covered_shares : List ℕ → List ℕ → List ℕ
@@ -23,5 +22,5 @@ uncovered_shares covered shares = listed (length covered) (λ i. uncovered_then 
 
 -- a lent list afterwards: the accounts' contracts in its first places and the rest as it was, or all as it was (house)
 abbrev pub lent_after : Verdict → List ℕ → List ℕ → List ℕ
-lent_after Accepted contracts lent = contracts ++ drop (length contracts) lent
-lent_after (Refused why) contracts lent = lent
+lent_after (Ok tt) contracts lent = contracts ++ drop (length contracts) lent
+lent_after (Err why) contracts lent = lent

@@ -5,7 +5,7 @@ use Prim.Native.Nat.{ℕ}
 use lib.IntN.{ℤ}
 use lib.ListN.{length, take, drop, length-map}
 use lib.Seq.{take_at}
-use Rattle.terms.specs.declared.verdict.Verdict.TheVariants.{Accepted}
+use Rattle.terms.specs.Verdicts.{accept}
 use Rattle.desk.specs.Runs.{Ran}
 use Rattle.desk.specs.declared.Run.{Run}
 use Rattle.desk.proofs.Started.{Leaves}
@@ -20,7 +20,7 @@ module _ {A : Type 0} (ran : Ran) (said : ℕ × ℤ → A) (lent now : List A) 
   firsts : take (length ran.answers) now ≡ map said ran.answers
   firsts = ap (take (length ran.answers)) is ∙ take_at (map said ran.answers) _ (length ran.answers) (length-map ran.answers said)
 
-module _ (ran : Ran) (run : Run) (numbers₀ numbers : List ℕ) (sums₀ sums : List ℤ) (left : Leaves Accepted ran run numbers₀ numbers sums₀ sums) where
+module _ (ran : Ran) (run : Run) (numbers₀ numbers : List ℕ) (sums₀ sums : List ℤ) (left : Leaves accept ran run numbers₀ numbers sums₀ sums) where
   count : run.answered ≡ length ran.answers
   count = ap (λ (r : Run). r.answered) left.0
 

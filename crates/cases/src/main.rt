@@ -8,22 +8,11 @@ mod ranges;
 mod reads;
 mod writes;
 
-use lines::input::{STANDARD_INPUT, letter, line_end};
+use lines::input::{each_line_read, letter};
 use lines::output::text;
 
 fn main() {
-    let mut buffer = io::large_buffer();
-    let n = io::read_full(STANDARD_INPUT, &mut buffer);
-    run(&buffer[..n]);
-}
-
-fn run(s: &[u8]) {
-    let mut at = 0;
-    while at < s.len() {
-        let stop = line_end(s, at);
-        line(&s[at..stop]);
-        at = stop + 1;
-    }
+    each_line_read(line);
 }
 
 // A line that begins with '#' is a remark.

@@ -3,6 +3,7 @@ use lines::input::field;
 use lines::output::number;
 use terms::Measure;
 
+// No `TryFrom`: the numbers are this program's own, and neither the trait nor `Measure` is.
 fn measure(n: u64) -> Measure {
     match n {
         1 => Measure::Underlyings,
@@ -20,9 +21,9 @@ fn measure(n: u64) -> Measure {
     }
 }
 
-// Measure, value; measure 13 is the contract unit.
+// Measure, value; measure 13 is the contract unit: the lines' own numbers.
 pub fn allowed(l: &[u8]) {
-    let of = field(l, 1);
+    let of = field::<u64>(l, 1);
     let value = field(l, 2);
     if of == 13 {
         number(terms::unit_allowed(value) as u64);

@@ -2,12 +2,12 @@
 use crate::asked;
 use lines::input::{LENT, field};
 use lines::output::{bytes, number, refused, text};
-use writing::Written;
+use terms::Refusal;
 
 // The buffer's size, the kind, the fields.
 pub fn write(l: &[u8]) {
     let mut lent = [0; LENT];
-    let size = io::count((field(l, 1) % 1_000) as isize, &lent);
+    let size = LENT.min((field::<u64>(l, 1) % 1_000) as usize);
     in_buffer(&mut lent[..size], l);
 }
 
@@ -18,25 +18,23 @@ fn in_buffer(buffer: &mut [u8], l: &[u8]) {
     bytes(buffer);
 }
 
-fn put(buffer: &mut [u8], l: &[u8]) -> Written {
+fn put(buffer: &mut [u8], l: &[u8]) -> Result<usize, Refusal> {
     writing::write(asked::entry(l), asked::figures(l), buffer)
 }
 
 // Each byte is told from those near it, so that one that moved shows.
 fn mark(buffer: &mut [u8]) {
-    let mut i = 0;
-    while i < buffer.len() {
-        buffer[i] = ((165 + 37 * (i % 251)) % 251) as u8;
-        i += 1;
+    for (i, byte) in buffer.iter_mut().enumerate() {
+        *byte = ((165 + 37 * (i % 251)) % 251) as u8;
     }
 }
 
-fn outcome(written: Written) {
+fn outcome(written: Result<usize, Refusal>) {
     match written {
-        Written::Bytes(n) => {
+        Ok(n) => {
             text(b" bytes");
             number(n as u64);
         }
-        Written::Refused(why) => refused(why),
+        Err(why) => refused(why),
     }
 }

@@ -4,4 +4,5 @@ pub mod MarginPass
 pub mod RowPass
 pub mod Summed
 pub mod TotalsPass
+pub mod Turn
 pub mod UnitsPass

@@ -1,25 +1,18 @@
--- A pass that sets one row after the other has listed the rows so far, since a list is told by its length and its rows.
+-- A pass that sets rows has listed them anew, since a list is told by its length and its rows.
 use mathlib.Core.Path.{◌≡◌, sym, ap, ◌∙◌}
 use mathlib.Core.Logic.{◌≢◌}
-use mathlib.Core.Bool.{Bool, cond}
-use mathlib.Core.List.{List, map}
-use Prim.Native.Nat.{ℕ, ◌+◌, ◌≤◌, ◌<◌}
+use mathlib.Core.Bool.{cond}
+use mathlib.Core.List.{List, ◌++◌}
+use Prim.Native.Nat.{ℕ, ◌+◌, ◌-◌, ◌≤◌, ◌<◌}
 use native.Mathlib.Decide.{ℕ_discrete, dec_lt}
 use native.Mathlib.Omega.{arith}
 use borrow.Author.Tests.{lt-ltb, le-ltb}
 use lib.Dec.{ltb}
-use lib.ListN.{length, get_or, set, length-set, length-map, get_or-map}
+use lib.ListN.{length, get_or, set, take, drop, length-set, length-append, get_or-append}
+use Rattle.std.proofs.lemmas.List.{length-take-le, length-drop, get_or-take, get_or-drop, get_or-append_right}
 use lib.Seq.{get_or-set_same, get_or-set_other}
 use Rattle.terms.specs.Listed.{listed}
 use Rattle.terms.proofs.Listed.{listed_is, listed_length, listed_at}
-use Rattle.day_end.specs.Passes.{changed_to}
-
-same_test : (j k : ℕ) → j ≢ k → ltb j k ≡ ltb j (k + 1)
-same_test j k other =
-    elim (dec_lt j k) [
-      | yes h ↦ lt-ltb j k h ∙ sym (lt-ltb j (k + 1) (omega (arith, h)))
-      | no h ↦ let past : k + 1 ≤ j = omega (arith, h, other) in le-ltb j k (omega (arith, past)) ∙ sym (le-ltb j (k + 1) past)
-    ]
 
 module _ {A : Type 0} (n : ℕ) (none : A) where
   -- one row set, the others the same
@@ -36,30 +29,25 @@ module _ {A : Type 0} (n : ℕ) (none : A) where
         | no other ↦ get_or-set_other (listed n f) i j x none other ∙ listed_at n f j none there ∙ others j there other
       ])
 
-  -- a pass that changes one row after the other
-  module _ (change : ℕ → A → A) (rows : List A) (size : length rows ≡ n) where
-    pub none_changed : rows ≡ changed_to n none change rows 0
-    unfolding changed_to
-    none_changed = listed_is n none rows _ size (λ i h. rw (le-ltb i 0 (omega arith)))
-
-    -- the next row is as it was
-    next : (k : ℕ) → k < n → get_or (changed_to n none change rows k) k none ≡ get_or rows k none
-    unfolding changed_to
-    next k h = listed_at n _ k none h ∙ rw (le-ltb k k (omega arith))
-
-    turn : (k : ℕ) → k < n → set (changed_to n none change rows k) k (change k (get_or (changed_to n none change rows k) k none)) ≡ changed_to n none change rows (k + 1)
-    unfolding changed_to
-    turn k h =
-        listed_set _ _ k _ h (ap (change k) (next k h) ∙ rw (lt-ltb k (k + 1) (omega arith)))
-        (λ j there other. ap (λ (b : Bool). cond b (change j (get_or rows j none)) (get_or rows j none)) (same_test j k other))
-
-    pub one_changed : (k : ℕ) → k < n → (l : List A) → l ≡ changed_to n none change rows k → set l k (change k (get_or l k none)) ≡ changed_to n none change rows (k + 1)
-    one_changed k h l so_far = ap (λ (l : List A). set l k (change k (get_or l k none))) so_far ∙ turn k h
-
-  -- past the last row, where each was changed alike
-  pub each_changed : (f : A → A) (rows : List A) → length rows ≡ n → f none ≡ none → changed_to n none (λ i. f) rows n ≡ map f rows
-  unfolding changed_to
-  each_changed f rows size empty =
-      sym
-      (listed_is n none (map f rows) _ (length-map rows f ∙ size)
-      (λ i h. ap (get_or (map f rows) i) (sym empty) ∙ get_or-map f rows i none ∙ rw (lt-ltb i n h)))
+  -- the first k rows changed, each by its number, and the others as they were
+  pub first_changed : (change : ℕ → A → A) (rows first : List A) (k : ℕ) → length rows ≡ n → k ≤ n → length first ≡ length (take k rows)
+      → ((i : ℕ) (d : A) → i < length (take k rows) → get_or first i d ≡ change i (get_or (take k rows) i d))
+      → first ++ drop k rows ≡ listed n (λ i. cond (ltb i k) (change i (get_or rows i none)) (get_or rows i none))
+  first_changed change rows first k size few same each =
+      let long : length (take k rows) ≡ k = length-take-le k rows (omega (arith, few, size)) in
+      listed_is n none (first ++ drop k rows) (λ i. cond (ltb i k) (change i (get_or rows i none)) (get_or rows i none))
+      (omega (arith, length-append first (drop k rows), length-drop k rows, long, same, size, few))
+      (λ i there.
+      elim (dec_lt i k) [
+        | yes h ↦
+            get_or-append first (drop k rows) none i (omega (arith, h, long, same))
+            ∙ each i none (omega (arith, h, long))
+            ∙ ap (change i) (get_or-take k rows i none h)
+            ∙ rw (lt-ltb i k h)
+        | no h ↦
+            let past : k ≤ i = omega (arith, h) in
+            get_or-append_right first (drop k rows) k i none (same ∙ long) past
+            ∙ get_or-drop k rows (i - k) none
+            ∙ (let at : k + (i - k) ≡ i = omega (arith, past) in ap (λ (j : ℕ). get_or rows j none) at)
+            ∙ rw (le-ltb i k past)
+      ])

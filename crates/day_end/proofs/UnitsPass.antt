@@ -1,5 +1,5 @@
 -- A pass finds the units that cover contract by contract: a contract's units join its underlying's, and no other underlying's.
-use mathlib.Core.Path.{◌≡◌, refl, ap}
+use mathlib.Core.Path.{◌≡◌, ap, subst, ◌∙◌}
 use mathlib.Core.Logic.{◌≢◌}
 use mathlib.Core.List.{List}
 use Prim.Native.Nat.{ℕ, ◌+◌, ◌^◌, ◌<◌}
@@ -7,6 +7,7 @@ use native.Mathlib.Omega.{arith}
 use lib.ListN.{get_or, set, replicate}
 use Rattle.terms.specs.Counts.{units_for}
 use Rattle.terms.specs.declared.count.Position.{Position}
+use Rattle.entries.specs.declared.entry.Contract.{Contract}
 use Rattle.account.specs.Rows.{no_holding, no_position, contract}
 use Rattle.terms.specs.Sums.{Σ}
 use Rattle.account.specs.declared.account.Holding.{Holding}
@@ -14,6 +15,7 @@ use Rattle.account.specs.declared.tables.Tables.{Tables}
 use Rattle.day_end.specs.Passes.{Summed, of_units, units_to, with_units, holdings_to}
 use Rattle.day_end.proofs.RowPass.{Pass, of, joins, stays}
 use Rattle.day_end.proofs.RowPass as rows
+use Rattle.day_end.proofs.Turn.{Turn}
 
 module _ (t : Tables) (ps : List Position) where
   abbrev units : ℕ → ℕ
@@ -22,9 +24,9 @@ module _ (t : Tables) (ps : List Position) where
   abbrev more : ℕ → Holding → Holding
   more k h = with_units h (get_or ps k no_position).covered (contract t k).unit
 
-  pub none : replicate 8 (of_units 0) ≡ holdings_to t ps 0
+  pub none : (h : Holding) → h ≡ no_holding → replicate 8 h ≡ holdings_to t ps 0
   unfolding holdings_to units_to Σ
-  none = refl
+  none h e = ap (replicate 8) e
 
   pub here : (k : ℕ) → units_to t ps k (of t k) + units k ≡ units_to t ps (k + 1) (of t k)
   unfolding units_to
@@ -37,14 +39,21 @@ module _ (t : Tables) (ps : List Position) where
   pass : Pass t (λ k u. of_units (units_to t ps k u)) more
   pass = record { here = λ k. ap of_units (here k); elsewhere = λ k u other. ap of_units (elsewhere k u other) }
 
-  module _ (k : ℕ) (inside : of t k < 8) (hs : List Holding) (so_far : hs ≡ holdings_to t ps k) where
-    row : more k (get_or hs (of t k) no_holding) ≡ of_units (units_to t ps (k + 1) (of t k))
-    unfolding holdings_to
-    row = rows.row no_holding pass k inside hs so_far
+  module _ (k : ℕ) (row : Contract) (held : Position) (at : Turn t ps k row held) (hs : List Holding) (so_far : hs ≡ holdings_to t ps k) where
+    inside : of t k < 8
+    inside = subst (λ (row : Contract). row.underlying < 8) at.row_is at.inside
 
-    pub next : (h : Holding) → h ≡ more k (get_or hs (of t k) no_holding) → set hs (of t k) h ≡ holdings_to t ps (k + 1)
-    unfolding holdings_to
-    next = rows.next no_holding pass k inside hs so_far
+    same : with_units (get_or hs row.underlying no_holding) held.covered row.unit ≡ more k (get_or hs (of t k) no_holding)
+    same = λ i. with_units (get_or hs (at.row_is i).underlying no_holding) (at.held_is i).covered (at.row_is i).unit
 
-    pub fits : Summed t ps → k < t.n → (more k (get_or hs (of t k) no_holding)).locked.0 < 2 ^ 64
-    fits summed there = omega (arith, summed.units (k + 1) (of t k) (omega arith), ap (λ (h : Holding). h.locked.0) row)
+    pub next : (h : Holding) → h ≡ with_units (get_or hs row.underlying no_holding) held.covered row.unit → set hs row.underlying h ≡ holdings_to t ps (k + 1)
+    unfolding holdings_to
+    next h e = ap (λ (row : Contract). set hs row.underlying h) at.row_is ∙ rows.next no_holding pass k inside hs so_far h (e ∙ same)
+
+    row_after : more k (get_or hs (of t k) no_holding) ≡ of_units (units_to t ps (k + 1) (of t k))
+    unfolding holdings_to
+    row_after = rows.row no_holding pass k inside hs so_far
+
+    pub fits : Summed t ps → (with_units (get_or hs row.underlying no_holding) held.covered row.unit).locked.0 < 2 ^ 64
+    fits summed =
+        omega (arith, summed.units (k + 1) (of t k) (omega (arith, at.there)), ap (λ (h : Holding). h.locked.0) (same ∙ row_after))

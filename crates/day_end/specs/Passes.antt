@@ -1,5 +1,5 @@
--- Where a pass over rows stands after k of them: rows changed so far, margin, units and counts summed so far.
-use Rattle.std.specs.Prelude.{ℕ, ◌+◌, ◌*◌, ◌^◌, ◌≤◌, ◌<◌, cond, List, ltb, get_or}
+-- Where a pass over rows stands after k of them: margin, units and counts summed so far.
+use Rattle.std.specs.Prelude.{ℕ, ◌+◌, ◌*◌, ◌^◌, ◌≤◌, ◌<◌, List, get_or}
 use Rattle.terms.specs.Counts.{units_for}
 use Rattle.terms.specs.declared.count.Contracts.{Contracts}
 use Rattle.terms.specs.declared.count.Position.{Position}
@@ -16,10 +16,6 @@ use Rattle.account.specs.declared.account.Holding.{Holding}
 use Rattle.account.specs.declared.running.Running.{Running}
 use Rattle.account.specs.declared.tables.Tables.{Tables}
 use Rattle.day_end.specs.declared.after.Worked.{Worked}
-
--- the first k rows changed, each by its number, and the others as they were
-unfoldable pub changed_to : {A : Type 0} → ℕ → A → (ℕ → A → A) → List A → ℕ → List A
-changed_to size none change rows k = listed size (λ i. cond (ltb i k) (change i (get_or rows i none)) (get_or rows i none))
 
 -- margin and units of an underlying over the first k contracts, as `margin_in` and `covered_units` sum them over all
 unfoldable pub margin_to : Tables → List Position → ℕ → ℕ

@@ -13,7 +13,6 @@ use after::account_after;
 use entries::Figures;
 pub use figures::decide;
 use figures::installed;
-use terms::Verdict;
 
 // The day is ended on figures that the tables take.
 pub fn ended(tables: Tables, account: Account, figures: Figures) -> Outcome
@@ -22,7 +21,7 @@ pub fn ended(tables: Tables, account: Account, figures: Figures) -> Outcome
 {
     let new = installed(tables, figures);
     Outcome {
-        verdict: Verdict::Accepted,
+        verdict: Ok(()),
         tables: new,
         account: account_after(new, account),
     }

@@ -2,7 +2,6 @@
 pub mod BooksTold
 pub mod EntriesTold
 pub mod EveryInput
-pub mod Lent
 pub mod LentSlices
 pub mod NoEighteen
 pub mod OneOutcome

@@ -1,5 +1,6 @@
 -- Demand 3: "Two accounts whose tables differ at most in the limits, the second with X fen more and limits at least as high: where the first accepts a whole list (and the ceiling holds with X added), the second accepts it too, and after each entry both hold the same positions, orders, margin and locked units, the second exactly X more available."
-use Rattle.std.specs.Prelude.{List, ◌≡◌, ℕ, ◌+◌, ◌≤◌, pos, ◌+ℤ◌}
+use Rattle.std.specs.Prelude.{List, ◌≡◌, ℕ, ◌+◌, ◌≤◌, pos, ◌+ℤ◌, Ok}
+use Rattle.terms.specs.Verdicts.{accept}
 use Rattle.entries.specs.declared.entry.Entry.{Entry}
 use Rattle.entries.specs.declared.entry.Figures.{Figures}
 use Rattle.entries.specs.declared.entry.Underlying.{Underlying}
@@ -8,7 +9,6 @@ use Rattle.account.specs.Rows.{holding, underlying}
 use Rattle.account.specs.declared.account.Account.{Account}
 use Rattle.account.specs.declared.account.Sheet.{Sheet}
 use Rattle.account.specs.declared.judged.Outcome.{Outcome}
-use Rattle.terms.specs.declared.verdict.Verdict.TheVariants.{Accepted}
 use Rattle.account.specs.declared.tables.Tables.{Tables}
 use Rattle.demands.specs.Each.{Each, EachPair}
 
@@ -60,7 +60,7 @@ pub record XMore (X : ℕ) (first second : Account) : Type 0 where
 
 -- "the second accepts it too", and what both then hold
 pub record Likewise (X : ℕ) (first second : Outcome) : Type 0 where
-  pub accepted : second.verdict ≡ Accepted
+  pub accepted : second.verdict ≡ accept
   pub account : XMore X first.account second.account
 
 -- a desk: of tables, opening cash and a list of entries with their figures, what each entry leads to (house)
@@ -71,6 +71,6 @@ Desk = Tables → ℕ → List (Entry × Figures) → List Outcome
 abbrev pub Gift : Desk → Type 0
 Gift desk =
     (X cash : ℕ) (t t' : Tables) (entries : List (Entry × Figures)) → RoomierTables t t'
-    → Each (λ first. first.verdict ≡ Accepted) (desk t cash entries)
+    → Each (λ first. first.verdict ≡ accept) (desk t cash entries)
     → Each (λ first. RoomFor X first.account) (desk t cash entries)
     → EachPair (Likewise X) (desk t cash entries) (desk t' (cash + X) entries)

@@ -1,5 +1,6 @@
 -- Demand 3 of two runs from their bytes: what the second may differ in, and what then comes of both.
-use Rattle.std.specs.Prelude.{true, List, ◌≡◌, ℕ, suc, ◌+◌, ◌≤◌, ◌<◌, ℤ, pos, ◌+ℤ◌, get_or, length, take}
+use Rattle.std.specs.Prelude.{true, List, ◌≡◌, ℕ, suc, ◌+◌, ◌≤◌, ◌<◌, ℤ, pos, ◌+ℤ◌, get_or, length, take, Ok}
+use Rattle.terms.specs.Verdicts.{accept}
 use Rattle.entries.specs.Entries.{kind_of}
 use Rattle.entries.specs.Table.{code_of}
 use Rattle.entries.specs.declared.entry.Entry.{Entry}
@@ -11,7 +12,6 @@ use Rattle.reading.specs.declared.Answer.TheVariants as Answer·of
 use Rattle.reading.specs.declared.Reading.{Reading}
 use Rattle.account.specs.Rows.{underlying}
 use Rattle.account.specs.Sound.{underlying_allowed}
-use Rattle.terms.specs.declared.verdict.Verdict.TheVariants.{Accepted}
 use Rattle.account.specs.declared.tables.Tables.{Tables}
 use Rattle.set_up.specs.declared.stages.Book.{Book}
 use Rattle.set_up.specs.declared.stages.Stage.TheVariants.{Entries}
@@ -55,13 +55,13 @@ pub record BookBeside (X : ℕ) (first second : Book) : Type 0 where
 
 -- "where the first accepts a whole list (and the ceiling holds with X added)", at the opening and after each entry; `runs k` is the run as far as k answers
 pub record FirstAccepts (X : ℕ) (runs : ℕ → Ran) (r : Run) (numbers : List ℕ) : Type 0 where
-  pub verdict : r.verdict ≡ Accepted
+  pub verdict : r.verdict ≡ accept
   pub all : Each (λ number. number ≡ 0) (take r.answered numbers)
   pub ceiling : (k : ℕ) → k ≤ r.answered → (runs k).book.stage ≡ Entries → RoomFor X (runs k).book.account
 
 -- "the second accepts it too, and after each entry both hold the same .., the second exactly X more available": what was returned, and what was written
 pub record SecondToo (X : ℕ) (runs runs' : ℕ → Ran) (r r' : Run) (numbers' : List ℕ) (sums sums' : List ℤ) : Type 0 where
-  pub verdict : r'.verdict ≡ Accepted
+  pub verdict : r'.verdict ≡ accept
   pub answered : r'.answered ≡ r.answered
   pub place : r'.place ≡ r.place
   pub all : Each (λ number. number ≡ 0) (take r'.answered numbers')

@@ -1,16 +1,14 @@
 -- The refusals of reading, of writing, of a record of a book and of what a list starts from, each as one list in document 01's order and numbers ("Refusal numbers", its table and last paragraphs; "Numbers"): the first test that holds gives the number. Those of an open account's entries are the account's.
-use Rattle.std.specs.Prelude.{Bool, true, false, not, ◌&&◌, List, [], ◌∷◌, ◌++◌, ℕ, ◌%◌, ltb, eqb, length}
+use Rattle.std.specs.Prelude.{Bool, true, false, not, ◌&&◌, List, [], ◌∷◌, ◌++◌, ℕ, ◌%◌, ltb, eqb, length, Result, Ok, Err}
+use Rattle.terms.specs.Codes.{not_listed}
+use Rattle.terms.specs.declared.unlisted.Unlisted.{Unlisted}
 use Rattle.entries.specs.Entries.{entry_of, kind_of}
 use Rattle.entries.specs.Table.{code_of, is_day_end, length_fits, counts_fit}
 use Rattle.entries.specs.declared.entry.Contract.{Contract}
 use Rattle.entries.specs.declared.entry.Entry.{Entry}
-use Rattle.entries.specs.declared.entry.EntryCoded.{EntryCoded}
-use Rattle.entries.specs.declared.entry.EntryCoded.TheVariants as Entry·answer
 use Rattle.entries.specs.declared.entry.Figures.{Figures}
 use Rattle.entries.specs.declared.entry.Underlying.{Underlying}
 use Rattle.entries.specs.declared.kind.Kind.{Kind}
-use Rattle.entries.specs.declared.kind.KindCoded.{KindCoded}
-use Rattle.entries.specs.declared.kind.KindCoded.TheVariants as Kind·answer
 use Rattle.reading.specs.Reading.{length_at, n_at, m_at, fields_at}
 use Rattle.writing.specs.Writing.{length_for, counts_barred}
 use Rattle.account.specs.Checks.{member}
@@ -22,21 +20,21 @@ use Rattle.set_up.specs.declared.stages.Book.{Book}
 use Rattle.set_up.specs.declared.stages.Stage.{Stage}
 use Rattle.set_up.specs.declared.stages.Stage.TheVariants.{Underlyings, Contracts, Entries}
 
-abbrev pub code_unlisted : EntryCoded → Bool
-code_unlisted (Entry·answer.Listed entry) = false
-code_unlisted Entry·answer.Unlisted = true
+abbrev pub code_unlisted : Result Entry Unlisted → Bool
+code_unlisted (Ok entry) = false
+code_unlisted (Err none) = true
 
-abbrev pub kind_unlisted : KindCoded → Bool
-kind_unlisted (Kind·answer.Listed kind) = false
-kind_unlisted Kind·answer.Unlisted = true
+abbrev pub kind_unlisted : Result Kind Unlisted → Bool
+kind_unlisted (Ok kind) = false
+kind_unlisted (Err none) = true
 
 -- a question about the kind; one that is not listed has been refused before it is asked
-abbrev pub asked : KindCoded → (Kind → Bool) → Bool
-asked (Kind·answer.Listed kind) question = question kind
-asked Kind·answer.Unlisted question = false
+abbrev pub asked : Result Kind Unlisted → (Kind → Bool) → Bool
+asked (Ok kind) question = question kind
+asked (Err none) question = false
 
 -- reading, of the bytes from the place on and the kind that they say
-abbrev pub reading_tests : List ℕ → KindCoded → List (Bool × ℕ)
+abbrev pub reading_tests : List ℕ → Result Kind Unlisted → List (Bool × ℕ)
 reading_tests r said =
     (ltb (length r) 4, 1)  -- "fewer than 4 bytes 1"
     ∷ (kind_unlisted said, 2)  -- "then 2"

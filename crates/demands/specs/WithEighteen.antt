@@ -1,5 +1,5 @@
 -- The desk as it stood before #112, with check 18 still in: kept to be compared with the one that stands.
-use Rattle.std.specs.Prelude.{ℕ, ◌+◌, not, ◌&&◌, ◌||◌, List, leb, ltb}
+use Rattle.std.specs.Prelude.{ℕ, ◌+◌, not, ◌&&◌, ◌||◌, List, leb, ltb, Ok}
 use Rattle.terms.specs.Kinds.{buys_of}
 use Rattle.terms.specs.Ranges.{range_of, ◌∈◌}
 use Rattle.terms.specs.declared.measure.Measure.TheVariants.{Price, Quantity, Money}
@@ -13,10 +13,9 @@ use Rattle.reading.specs.declared.Answer.TheVariants as Answer·of
 use Rattle.reading.specs.declared.Reading.{Reading}
 use Rattle.account.specs.Fills.{named, paid, price_allowed}
 use Rattle.account.specs.Money.{kind_of}
-use Rattle.terms.specs.Verdicts.{◌else◌then◌}
+use Rattle.terms.specs.Verdicts.{◌else◌then◌, accept}
 use Rattle.account.specs.declared.judged.Named.{Named}
-use Rattle.terms.specs.declared.verdict.Verdict.{Verdict}
-use Rattle.terms.specs.declared.verdict.Verdict.TheVariants.{Accepted}
+use Rattle.terms.specs.Verdicts.{Verdict}
 use Rattle.set_up.specs.Stages.{book_after, entered_as, in_place, new_book, record_verdict}
 use Rattle.set_up.specs.declared.stages.Book.{Book}
 use Rattle.desk.specs.Runs.{Answered, Ran, answer_by, answer_for, run_by}
@@ -30,7 +29,7 @@ fill_verdict_with18 f fill =
     leb fill.quantity f.order.left.0 && price_allowed buys f.order.price fill.price else FillBarred then
     buys || (f.sheet.cash + f.sheet.premium + paid f fill ∈ range_of Money) else CeilingPassed then
     not buys || leb (paid f fill) f.sheet.cash else CashBelowZero then
-    Accepted
+    accept
 
 -- something for a fill, and for all other entries (house)
 abbrev by_fill : {A : Type 0} → (Fill → A) → A → Entry → A

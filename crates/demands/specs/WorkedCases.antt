@@ -1,5 +1,5 @@
 -- The cases a to n of document 01's "Figures to meet": what is given, and what comes of it.
-use Rattle.std.specs.Prelude.{◌≡◌, List, [], ◌∷◌, ℕ}
+use Rattle.std.specs.Prelude.{◌≡◌, List, [], ◌∷◌, ℕ, Ok}
 use Rattle.terms.specs.declared.class.Class.{Class}
 use Rattle.terms.specs.declared.class.Class.TheVariants.{Stock, Fund}
 use Rattle.terms.specs.declared.count.Position.{Position}
@@ -7,7 +7,6 @@ use Rattle.terms.specs.declared.right.Right.{Right}
 use Rattle.terms.specs.declared.right.Right.TheVariants.{Call, Put}
 use Rattle.rules.specs.Charges.{margin_charge}
 use Rattle.rules.specs.Netting.{netted}
-use Rattle.rules.specs.declared.Charge.TheVariants.{Fen}
 
 abbrev pub position : ℕ → ℕ → ℕ → Position
 position long short covered = record { long = record { 0 = long }; short = record { 0 = short }; covered = record { 0 = covered } }
@@ -18,7 +17,7 @@ pub data Case : Type 0 where
   nets : (long short covered long' short' covered' : ℕ) → Case
 
 abbrev pub Holds : Case → Type 0
-Holds (margin class right unit S P K fen) = margin_charge class right S P K unit ≡ Fen fen
+Holds (margin class right unit S P K fen) = margin_charge class right S P K unit ≡ Ok fen
 Holds (nets l s c l' s' c') = netted (position l s c) ≡ position l' s' c'
 
 abbrev pub cases : List Case

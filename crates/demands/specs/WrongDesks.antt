@@ -1,5 +1,5 @@
 -- Desks that demand 3 alone would let through ("What the proofs owe"), and the list on tables and cash that shows each of them.
-use Rattle.std.specs.Prelude.{List, [], ◌∷◌, map, ◌≡◌, ℕ, ℤ, length, replicate, set}
+use Rattle.std.specs.Prelude.{List, [], ◌∷◌, map, ◌≡◌, ℕ, ℤ, length, replicate, set, Ok, Err}
 use Rattle.terms.specs.declared.class.Class.TheVariants.{Fund}
 use Rattle.terms.specs.declared.kind.OrderKind.TheVariants.{BuyOpen}
 use Rattle.terms.specs.declared.refusal.Refusal.{Refusal}
@@ -15,11 +15,10 @@ use Rattle.account.specs.Money.{available_of}
 use Rattle.account.specs.Opening.{opening}
 use Rattle.account.specs.Rows.{no_contract, no_underlying}
 use Rattle.account.specs.Steps.{run_by, step}
-use Rattle.terms.specs.Verdicts.{number_in}
+use Rattle.terms.specs.Verdicts.{number_in, accept}
 use Rattle.account.specs.declared.account.Account.{Account}
 use Rattle.account.specs.declared.judged.Outcome.{Outcome}
-use Rattle.terms.specs.declared.verdict.Verdict.{Verdict}
-use Rattle.terms.specs.declared.verdict.Verdict.TheVariants.{Accepted, Refused}
+use Rattle.terms.specs.Verdicts.{Verdict}
 use Rattle.account.specs.declared.tables.Tables.{Tables}
 use Rattle.desk.proofs.run_list.Reads as run_list
 use Rattle.demands.specs.Gift.{Desk, richer}
@@ -31,18 +30,18 @@ always_same v made t cash entries = map (λ entry. record { verdict = v; tables 
 
 -- "a version that refuses everything"
 abbrev pub refuses_all : Refusal → Desk
-refuses_all why = always_same (Refused why) (opening 0)
+refuses_all why = always_same (Err why) (opening 0)
 
 -- "one that accepts and books nothing"
 abbrev pub books_nothing : Desk
-books_nothing = always_same Accepted (opening 0)
+books_nothing = always_same accept (opening 0)
 
 -- "one that books the first entry and pretends after"
 abbrev pub pretends : Desk
 pretends t cash [] = []
 pretends t cash (e ∷ es) =
     let first = step t (opening cash) e.0 e.1 in
-    first ∷ map (λ entry. record { verdict = Accepted; tables = first.tables; account = first.account }) es
+    first ∷ map (λ entry. record { verdict = accept; tables = first.tables; account = first.account }) es
 
 -- "a made-up daily count": each entry is stepped as if nothing had been bought today
 abbrev pub forgets_daily : Desk

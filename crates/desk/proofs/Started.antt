@@ -1,6 +1,6 @@
 -- What a run leaves: what the caller is told, and what both slices hold.
 use Rattle.std.specs.Prelude.{◌≡◌, ℕ, List, ℤ}
-use Rattle.terms.specs.declared.verdict.Verdict.{Verdict}
+use Rattle.terms.specs.Verdicts.{Verdict}
 use Rattle.desk.specs.Runs.{Ran, numbers_left, sums_left, told}
 use Rattle.desk.specs.declared.Run.{Run}
 

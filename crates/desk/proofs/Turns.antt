@@ -14,7 +14,7 @@ use lib.Seq.{sets, sets-eq, length-sets}
 use Rattle.terms.proofs.Ranges.{first_holds, second_holds}
 use Rattle.reading.specs.Reading.{read_at}
 use Rattle.reader.specs.Reader.{found_at}
-use Rattle.terms.specs.declared.verdict.Verdict.{Verdict}
+use Rattle.terms.specs.Verdicts.{Verdict}
 use Rattle.set_up.specs.declared.stages.Book.{Book}
 use Rattle.desk.specs.Runs.{Answered, Ran, answer_to, ended, stopped_at, ◌before◌, run_from, told, numbers_left, sums_left}
 

@@ -1,5 +1,5 @@
 -- A run over the bytes of a list or a book: a refusal number or 0, and available, for each record, one after the other (Records; Figures to meet).
-use Rattle.std.specs.Prelude.{ℕ, zero, suc, min, Bool, true, false, cond, List, [], ◌∷◌, ◌++◌, map, ltb, ℤ, pos, length, drop}
+use Rattle.std.specs.Prelude.{ℕ, zero, suc, min, Bool, true, false, cond, List, [], ◌∷◌, ◌++◌, map, ltb, ℤ, pos, length, drop, Ok, Err}
 use Rattle.terms.specs.Refusals.{number_of}
 use Rattle.entries.specs.declared.entry.Figures.{Figures}
 use Rattle.reading.specs.Reading.{read_at}
@@ -10,8 +10,7 @@ use Rattle.reader.specs.Reader.{found_at}
 use Rattle.account.specs.Money.{available_of}
 use Rattle.terms.specs.Verdicts.{number_in}
 use Rattle.account.specs.declared.account.Sheet.{Sheet}
-use Rattle.terms.specs.declared.verdict.Verdict.{Verdict}
-use Rattle.terms.specs.declared.verdict.Verdict.TheVariants.{Accepted, Refused}
+use Rattle.terms.specs.Verdicts.{Verdict}
 use Rattle.account.specs.declared.tables.Tables.{Tables}
 use Rattle.rows.specs.Given.{list_verdict}
 use Rattle.set_up.specs.Stages.{Entered, entered, new_book, opened, waiting}
@@ -88,8 +87,8 @@ abbrev pub book_run : ℕ → List ℕ → Ran
 book_run places s = run_from places s 0 new_book
 
 abbrev pub list_by : Verdict → Tables → ℕ → ℕ → List ℕ → Ran
-list_by Accepted t cash places s = run_from places s 0 (opened t cash)
-list_by (Refused why) t cash places s = ended 0 (waiting t)
+list_by (Ok tt) t cash places s = run_from places s 0 (opened t cash)
+list_by (Err why) t cash places s = ended 0 (waiting t)
 
 abbrev pub list_run : Tables → ℕ → ℕ → List ℕ → Ran
 list_run t cash = list_by (list_verdict t cash) t cash

@@ -12,9 +12,9 @@ pub(crate) fn available_in(stage: Stage, sheet: Sheet) -> i64
     requires { stage ≡ Stage.Entries → SoundSheet sheet }
     ensures { result ≡ available_at stage sheet }
 {
-    match stage {
-        Stage::Underlyings => 0,
-        Stage::Contracts => 0,
-        Stage::Entries => available(sheet),
+    if stage == Stage::Entries {
+        available(sheet)
+    } else {
+        0
     }
 }

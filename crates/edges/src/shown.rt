@@ -2,79 +2,71 @@
 // empty.
 ghost use Rattle.account.specs.Sound.{SoundSheet};
 
-use account::{Account, Holding, Resting, Sheet};
+use account::{Account, Holding, Resting};
 use lines::output::{number, signed, text};
 use money::available;
 use terms::{Position, Verdict};
 
-// The rows one after the other: positions, holdings, order places.
-const HOLDINGS: usize = terms::CONTRACTS;
-
-const ORDERS: usize = HOLDINGS + terms::UNDERLYINGS;
-
-const ROWS: usize = ORDERS + terms::PLACES;
-
-pub fn show(verdict: Verdict, sheet: Sheet, last: u32, waiting: u64)
-    requires { SoundSheet sheet }
+pub(crate) fn show(verdict: Verdict, account: &Account)
+    requires { SoundSheet account.now.sheet }
 {
+    let sheet = account.sheet;
     text(b" =");
-    number(verdict.number() as u64);
+    number(u64::from(terms::number(&verdict)));
     signed(available(sheet));
     number(sheet.cash);
     number(sheet.premium);
     number(sheet.holds);
     number(sheet.margin);
-    number(last as u64);
-    if waiting != 0 {
+    number(u64::from(account.last));
+    if account.waiting != 0 {
         text(b" w");
-        number(waiting);
+        number(account.waiting);
     }
 }
 
-pub fn rows(account: Account) {
-    let mut i = 0;
-    while i < ROWS {
-        if i < HOLDINGS {
-            let held = account.positions[i];
-            position(i, held);
-        } else if i < ORDERS {
-            let stands = account.holdings[i - HOLDINGS];
-            holding(i - HOLDINGS, stands);
-        } else {
-            let rests = account.orders[i - ORDERS];
-            order(i - ORDERS, rests);
-        }
-        i += 1;
+// The rows one after the other: positions, holdings, order places.
+pub(crate) fn rows(account: &Account) {
+    each(&account.positions, position);
+    each(&account.holdings, holding);
+    each(&account.orders, order);
+}
+
+fn each<T, F: Fn(usize, &T)>(rows: &[T], show: F)
+    requires { F.IsAlwaysCallable show }
+{
+    for (i, row) in rows.iter().enumerate() {
+        show(i, row);
     }
 }
 
-fn position(contract: usize, held: Position) {
+fn position(contract: usize, held: &Position) {
     if (held.long.0 | held.short.0 | held.covered.0) != 0 {
         text(b" p");
         number(contract as u64);
-        number(held.long.0 as u64);
-        number(held.short.0 as u64);
-        number(held.covered.0 as u64);
+        number(u64::from(held.long.0));
+        number(u64::from(held.short.0));
+        number(u64::from(held.covered.0));
     }
 }
 
-fn holding(underlying: usize, stands: Holding) {
-    if (stands.locked.0 != 0) | (stands.bought.0 != 0) {
+fn holding(underlying: usize, stands: &Holding) {
+    if stands.locked.0 != 0 || stands.bought.0 != 0 {
         text(b" u");
         number(underlying as u64);
         number(stands.locked.0);
-        number(stands.bought.0 as u64);
+        number(u64::from(stands.bought.0));
     }
 }
 
-fn order(place: usize, rests: Resting) {
+fn order(place: usize, rests: &Resting) {
     if rests.number != 0 {
         text(b" o");
         number(place as u64);
-        number(rests.number as u64);
-        number(rests.contract as u64);
-        number(rests.kind as u64);
-        number(rests.left.0 as u64);
-        number(rests.price as u64);
+        number(u64::from(rests.number));
+        number(u64::from(rests.contract));
+        number(u64::from(rests.kind));
+        number(u64::from(rests.left.0));
+        number(u64::from(rests.price));
     }
 }

@@ -1,26 +1,18 @@
 -- What holds of every kind and of every entry, gone through once: a kind's code says the kind, so what holds of each row of the table holds of each kind; an entry's fields are as many as its kind's, and with the kind they say the entry, so an entry that has the day end's code is a day end.
-use mathlib.Core.Path.{◌≡◌, refl, subst}
-use mathlib.Core.Bool.{Bool, true, false, cond}
-use mathlib.Core.List.{List, [], ◌∷◌}
-use Prim.Native.Nat.{ℕ}
-use native.Mathlib.Omega.{arith}
-use borrow.Author.Tests.{eqb-true}
-use lib.Dec.{eqb}
-use lib.ListN.{length}
-use Rattle.terms.specs.Codes.{coded, class_code, right_code, kind_code}
+use Rattle.std.proofs.Common.{◌≡◌, refl, subst, Bool, true, false, cond, List, [], ◌∷◌, ℕ, arith, eqb-true, eqb, length, Result, Ok, Err}
+use Rattle.terms.specs.Codes.{not_listed, coded, class_code, classes, right_code, rights, kind_code}
+use Rattle.terms.specs.declared.unlisted.Unlisted.{Unlisted}
+use Rattle.terms.specs.Codes as Codes
 use Rattle.terms.proofs.Codes.{class_read, right_read, kind_read}
 use Rattle.entries.specs.Entries.{kind_of, fields_in, ◌!◌, order_of, underlying_of, contract_of, entry_of}
 use Rattle.entries.specs.Table.{code_of, kinds, kind_coded, fields_of, is_day_end}
 use Rattle.entries.specs.declared.entry.Entry.{Entry}
 use Rattle.entries.specs.declared.entry.Entry.TheVariants as Entry·of
-use Rattle.entries.specs.declared.entry.EntryCoded.TheVariants.{Listed, Unlisted}
 use Rattle.entries.specs.declared.kind.Kind.{Kind}
 use Rattle.entries.specs.declared.kind.Kind.TheVariants.{Deposit, Withdraw, Lock, Unlock, Order, Fill, Cancel, DayEnd, Pay, Drop, Underlying, Contract, Opening}
-use Rattle.entries.specs.declared.kind.KindCoded.{KindCoded}
-use Rattle.entries.specs.declared.kind.KindCoded.TheVariants as Kind·answer
-use Rattle.entries.proofs.Words.{class_word, right_word, kind_word}
+use Rattle.entries.proofs.Words.{word_made}
 
-pub kind_said : (kind : Kind) → kind_coded (code_of kind) ≡ Kind·answer.Listed kind
+pub kind_said : (kind : Kind) → kind_coded (code_of kind) ≡ Ok kind
 kind_said Deposit = refl
 kind_said Withdraw = refl
 kind_said Lock = refl
@@ -43,32 +35,32 @@ EachRow P (kind ∷ rows) = P kind × EachRow P rows
 pub each_kind : (P : Kind → Type 0) → EachRow P kinds → (kind : Kind) → P kind
 each_kind P each kind = among kinds each (kind_said kind)
   where
-    among : (rows : List Kind) → EachRow P rows → coded code_of Kind·answer.Listed Kind·answer.Unlisted rows (code_of kind) ≡ Kind·answer.Listed kind → P kind
+    among : (rows : List Kind) → EachRow P rows → coded code_of Ok (Err not_listed) rows (code_of kind) ≡ Ok kind → P kind
     among [] each e = let never : ◌≡◌ {A = ℕ} 0 1 = cc in absurd (omega arith)
     among (row ∷ rows) each e = go (eqb (code_of kind) (code_of row)) (among rows each.1) e
       where
-        go : (test : Bool) {later : KindCoded} → (later ≡ Kind·answer.Listed kind → P kind) → cond test (Kind·answer.Listed row) later ≡ Kind·answer.Listed kind → P kind
+        go : (test : Bool) {later : (Result Kind Unlisted)} → (later ≡ Ok kind → P kind) → cond test (Ok row) later ≡ Ok kind → P kind
         go true next e = let is : row ≡ kind = cc in subst P is each.0
         go false next e = next e
 
 -- an entry's kind and fields say the entry, and no field is missing
 pub record Said (entry : Entry) : Type 0 where
   pub as_many : length (fields_in entry) ≡ length (fields_of (kind_of entry))
-  pub says : entry_of (kind_of entry) (fields_in entry) ≡ Listed entry
+  pub says : entry_of (kind_of entry) (fields_in entry) ≡ Ok entry
 
 pub said : (entry : Entry) → Said entry
 said (Entry·of.Deposit amount) = search
 said (Entry·of.Withdraw amount) = search
 said (Entry·of.Lock underlying units) = search
 said (Entry·of.Unlock underlying units) = search
-said (Entry·of.Order o) = record { as_many = refl; says = kind_word (order_of (fields_in (Entry·of.Order o))) Unlisted (kind_code o.kind) o.kind (kind_read o.kind) }
+said (Entry·of.Order o) = record { as_many = refl; says = word_made kind_code (order_of (fields_in (Entry·of.Order o))) (Err not_listed) Codes.kinds (kind_code o.kind) o.kind (kind_read o.kind) }
 said (Entry·of.Fill fill) = search
 said (Entry·of.Cancel number) = search
 said (Entry·of.DayEnd n m) = search
 said Entry·of.Pay = search
 said Entry·of.Drop = search
-said (Entry·of.Underlying u) = record { as_many = refl; says = class_word (underlying_of (fields_in (Entry·of.Underlying u))) Unlisted (class_code u.class) u.class (class_read u.class) }
-said (Entry·of.Contract c) = record { as_many = refl; says = right_word (contract_of (fields_in (Entry·of.Contract c))) Unlisted (right_code c.right) c.right (right_read c.right) }
+said (Entry·of.Underlying u) = record { as_many = refl; says = word_made class_code (underlying_of (fields_in (Entry·of.Underlying u))) (Err not_listed) classes (class_code u.class) u.class (class_read u.class) }
+said (Entry·of.Contract c) = record { as_many = refl; says = word_made right_code (contract_of (fields_in (Entry·of.Contract c))) (Err not_listed) rights (right_code c.right) c.right (right_read c.right) }
 said (Entry·of.Opening cash) = search
 
 -- the kind that has the day end's code is the day end

@@ -9,6 +9,7 @@ use lib.ListN.{length, get_or, take, drop, set, length-drop}
 use lib.Seq.{drop-cons, drop-drop, take-add, length-take-le, sets}
 use Rattle.entries.specs.Numbers.{bytes, value, number_at}
 use Rattle.entries.proofs.LittleEndian.{length_bytes}
+use Rattle.entries.proofs.Runs.{sets_append}
 
 value_append : (xs ys : List ℕ) → value (xs ++ ys) ≡ value xs + 256 ^ length xs * value ys
 unfolding value
@@ -53,10 +54,6 @@ bytes_low (suc w) x =
     (ap (λ (y : ℕ). y % 256) split ∙ digits_mod (x / 256 % 256 ^ w) r)
     (ap (λ (y : ℕ). y / 256) split ∙ digits_div (x / 256 % 256 ^ w) r)
     ∙ ap (λ (l : List ℕ). x % 256 ∷ l) (bytes_low w (x / 256))
-
-pub sets_append : (l : List ℕ) (i : ℕ) (xs ys : List ℕ) → sets l i (xs ++ ys) ≡ sets (sets l i xs) (i + length xs) ys
-sets_append l i [] ys = ap (λ (k : ℕ). sets l k ys) (sym (add-zero i))
-sets_append l i (x ∷ xs) ys = sets_append (set l i x) (suc i) xs ys ∙ ap (λ (k : ℕ). sets (sets (set l i x) (suc i) xs) k ys) (suc-add i (length xs) ∙ sym (add-suc i (length xs)))
 
 -- two numbers put one after the other are the wider one put
 pub put_joined : (a b : ℕ) (l d e : List ℕ) (at x : ℕ) → d ≡ sets l at (bytes a (x % 256 ^ a)) → e ≡ sets d (at + a) (bytes b (x / 256 ^ a % 256 ^ b)) → e ≡ sets l at (bytes (a + b) x)

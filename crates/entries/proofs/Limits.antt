@@ -1,7 +1,5 @@
 -- Allowed counts are bounded, since the tests of both ranges passed.
-use mathlib.Core.Path.{◌≡◌}
-use mathlib.Core.Bool.{true}
-use Prim.Native.Nat.{ℕ, ◌≤◌}
+use Rattle.std.proofs.Common.{◌≡◌, true, ℕ, ◌≤◌}
 use Rattle.terms.specs.Ranges.{range_of, ◌∈◌}
 use Rattle.terms.specs.declared.measure.Measure.TheVariants.{Contracts, Underlyings}
 use Rattle.terms.proofs.Ranges.{first_holds, second_holds, inside}

@@ -1,15 +1,15 @@
 -- Numbers that stand one after the other, read and put: what holds of a run follows from its parts, since each begins where the widths before it add up to.
-use mathlib.Core.Path.{◌≡◌, refl, sym, ap, ap₂, ◌∙◌}
-use mathlib.Core.List.{List, [], ◌∷◌, ◌++◌, append-nil, append_assoc}
-use Prim.Native.Nat.{ℕ, zero, suc, ◌+◌, ◌*◌, ◌<◌}
-use native.Mathlib.Nat.{add-zero, add_assoc, suc_inj}
-use native.Mathlib.Numerals.{add-one}
-use native.Mathlib.Omega.{arith}
-use lib.ListN.{length, get_or, take, drop, set, replicate, length-append, length-replicate, replicate-append-replicate}
-use lib.Seq.{append_snoc, drop-cons, take-suc, length-take-le, set_at, sets}
+use Rattle.std.proofs.Common.{suc-add, add-suc, ◌≡◌, refl, sym, ap, ap₂, ◌∙◌, List, [], ◌∷◌, ◌++◌, append-nil, append_assoc, ℕ, zero, suc, ◌+◌, ◌*◌, ◌<◌, add-zero, add_assoc, add-one, arith, length, get_or, take, drop, set, replicate, length-append, drop-cons, take-suc, length-take-le}
+use Rattle.std.proofs.lemmas.List.{length-replicate, replicate-append-replicate, set_at}
+use Rattle.std.proofs.lemmas.List.Edits.{sets}
+use Rattle.std.proofs.Math.Nat.{suc_inj}
+use Rattle.std.proofs.Math.Seq.{append_snoc}
 use Rattle.entries.specs.Numbers.{bytes, number_at, numbers_at, packed, total}
-use Rattle.entries.proofs.Halves.{sets_append}
 use Rattle.entries.proofs.LittleEndian.{length_bytes}
+
+pub sets_append : (l : List ℕ) (i : ℕ) (xs ys : List ℕ) → sets l i (xs ++ ys) ≡ sets (sets l i xs) (i + length xs) ys
+sets_append l i [] ys = ap (λ (k : ℕ). sets l k ys) (sym (add-zero i))
+sets_append l i (x ∷ xs) ys = sets_append (set l i x) (suc i) xs ys ∙ ap (λ (k : ℕ). sets (sets (set l i x) (suc i) xs) k ys) (suc-add i (length xs) ∙ sym (add-suc i (length xs)))
 
 pub total_fours : (n : ℕ) → total (replicate n 4) ≡ 4 * n
 total_fours zero = refl

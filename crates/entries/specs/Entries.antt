@@ -1,15 +1,14 @@
 -- Entries and the values of their records' fields, in the table's order (Records).
-use Rattle.std.specs.Prelude.{ℕ, ◌-◌, List, [], ◌∷◌, ◌++◌, get_or, take, drop, replicate}
-use Rattle.terms.specs.Codes.{coded, class_code, classes, right_code, rights, kind_code, kinds}
+use Rattle.std.specs.Prelude.{ℕ, ◌-◌, List, [], ◌∷◌, ◌++◌, get_or, take, drop, replicate, Result, Ok, Err}
+use Rattle.terms.specs.Codes.{coded, not_listed, class_code, classes, right_code, rights, kind_code, kinds}
 use Rattle.terms.specs.declared.class.Class.{Class}
 use Rattle.terms.specs.declared.kind.OrderKind.{OrderKind}
 use Rattle.terms.specs.declared.right.Right.{Right}
+use Rattle.terms.specs.declared.unlisted.Unlisted.{Unlisted}
 use Rattle.entries.specs.declared.kind.Kind.{Kind}
 use Rattle.entries.specs.declared.kind.Kind.TheVariants as Kind·of
 use Rattle.entries.specs.declared.entry.Entry.{Entry}
 use Rattle.entries.specs.declared.entry.Entry.TheVariants.{Deposit, Withdraw, Lock, Unlock, Order, Fill, Cancel, DayEnd, Pay, Drop, Underlying, Contract, Opening}
-use Rattle.entries.specs.declared.entry.EntryCoded.{EntryCoded}
-use Rattle.entries.specs.declared.entry.EntryCoded.TheVariants.{Listed, Unlisted}
 use Rattle.entries.specs.declared.entry.Figures.{Figures}
 
 -- "an entry carries its case" (house)
@@ -50,30 +49,30 @@ abbrev pub ◌!◌ : List ℕ → ℕ → ℕ
 vs ! i = get_or vs i 0
 
 -- an order, an underlying and a contract from their fields and the word that their code stands for (house)
-abbrev pub order_of : List ℕ → OrderKind → EntryCoded
-order_of vs kind = Listed (Order (record { number = vs ! 0; contract = vs ! 1; kind = kind; quantity = vs ! 3; price = vs ! 4 }))
+abbrev pub order_of : List ℕ → OrderKind → Result Entry Unlisted
+order_of vs kind = Ok (Order (record { number = vs ! 0; contract = vs ! 1; kind = kind; quantity = vs ! 3; price = vs ! 4 }))
 
-abbrev pub underlying_of : List ℕ → Class → EntryCoded
-underlying_of vs class = Listed (Underlying (record { class = class; close = vs ! 1; rights = vs ! 2; total = vs ! 3; daily = vs ! 4 }))
+abbrev pub underlying_of : List ℕ → Class → Result Entry Unlisted
+underlying_of vs class = Ok (Underlying (record { class = class; close = vs ! 1; rights = vs ! 2; total = vs ! 3; daily = vs ! 4 }))
 
-abbrev pub contract_of : List ℕ → Right → EntryCoded
-contract_of vs right = Listed (Contract (record { underlying = vs ! 0; right = right; strike = vs ! 2; unit = vs ! 3; settlement = vs ! 4 }))
+abbrev pub contract_of : List ℕ → Right → Result Entry Unlisted
+contract_of vs right = Ok (Contract (record { underlying = vs ! 0; right = right; strike = vs ! 2; unit = vs ! 3; settlement = vs ! 4 }))
 
 -- the entry that a kind and its fields say; a code that is not listed says none (house)
-abbrev pub entry_of : Kind → List ℕ → EntryCoded
-entry_of Kind·of.Deposit vs = Listed (Deposit (vs ! 0))
-entry_of Kind·of.Withdraw vs = Listed (Withdraw (vs ! 0))
-entry_of Kind·of.Lock vs = Listed (Lock (vs ! 0) (vs ! 1))
-entry_of Kind·of.Unlock vs = Listed (Unlock (vs ! 0) (vs ! 1))
-entry_of Kind·of.Order vs = coded kind_code (order_of vs) Unlisted kinds (vs ! 2)
-entry_of Kind·of.Fill vs = Listed (Fill (record { number = vs ! 0; quantity = vs ! 1; price = vs ! 2 }))
-entry_of Kind·of.Cancel vs = Listed (Cancel (vs ! 0))
-entry_of Kind·of.DayEnd vs = Listed (DayEnd (vs ! 0) (vs ! 1))
-entry_of Kind·of.Pay vs = Listed Pay
-entry_of Kind·of.Drop vs = Listed Drop
-entry_of Kind·of.Underlying vs = coded class_code (underlying_of vs) Unlisted classes (vs ! 0)
-entry_of Kind·of.Contract vs = coded right_code (contract_of vs) Unlisted rights (vs ! 1)
-entry_of Kind·of.Opening vs = Listed (Opening (vs ! 0))
+abbrev pub entry_of : Kind → List ℕ → Result Entry Unlisted
+entry_of Kind·of.Deposit vs = Ok (Deposit (vs ! 0))
+entry_of Kind·of.Withdraw vs = Ok (Withdraw (vs ! 0))
+entry_of Kind·of.Lock vs = Ok (Lock (vs ! 0) (vs ! 1))
+entry_of Kind·of.Unlock vs = Ok (Unlock (vs ! 0) (vs ! 1))
+entry_of Kind·of.Order vs = coded kind_code (order_of vs) (Err not_listed) kinds (vs ! 2)
+entry_of Kind·of.Fill vs = Ok (Fill (record { number = vs ! 0; quantity = vs ! 1; price = vs ! 2 }))
+entry_of Kind·of.Cancel vs = Ok (Cancel (vs ! 0))
+entry_of Kind·of.DayEnd vs = Ok (DayEnd (vs ! 0) (vs ! 1))
+entry_of Kind·of.Pay vs = Ok Pay
+entry_of Kind·of.Drop vs = Ok Drop
+entry_of Kind·of.Underlying vs = coded class_code (underlying_of vs) (Err not_listed) classes (vs ! 0)
+entry_of Kind·of.Contract vs = coded right_code (contract_of vs) (Err not_listed) rights (vs ! 1)
+entry_of Kind·of.Opening vs = Ok (Opening (vs ! 0))
 
 -- "figures past n and m are no part of an entry" (house)
 abbrev pub figures_in : ℕ → ℕ → Figures → List ℕ

@@ -1,13 +1,12 @@
 -- The table of records (Records; document 02, #101): the one place where kinds, fields and widths stand. Reading, writing and lengths all go by it.
-use Rattle.std.specs.Prelude.{ℕ, ◌+◌, ◌%◌, Bool, cond, ◌&&◌, List, [], ◌∷◌, eqb, replicate}
-use Rattle.terms.specs.Codes.{coded}
+use Rattle.std.specs.Prelude.{ℕ, ◌+◌, ◌%◌, Bool, cond, ◌&&◌, List, [], ◌∷◌, eqb, replicate, Result, Ok, Err}
+use Rattle.terms.specs.Codes.{coded, not_listed}
+use Rattle.terms.specs.declared.unlisted.Unlisted.{Unlisted}
 use Rattle.terms.specs.Ranges.{range_of, ◌to◌, ◌∈◌}
 use Rattle.terms.specs.declared.measure.Measure.TheVariants as Measure
 use Rattle.entries.specs.Numbers.{total}
 use Rattle.entries.specs.declared.kind.Kind.{Kind}
 use Rattle.entries.specs.declared.kind.Kind.TheVariants.{Deposit, Withdraw, Lock, Unlock, Order, Fill, Cancel, DayEnd, Pay, Drop, Underlying, Contract, Opening}
-use Rattle.entries.specs.declared.kind.KindCoded.{KindCoded}
-use Rattle.entries.specs.declared.kind.KindCoded.TheVariants as KindAnswer
 
 -- column "Kind" (house)
 abbrev pub code_of : Kind → ℕ
@@ -30,8 +29,8 @@ abbrev pub kinds : List Kind
 kinds = Deposit ∷ Withdraw ∷ Lock ∷ Unlock ∷ Order ∷ Fill ∷ Cancel ∷ DayEnd ∷ Pay ∷ Drop ∷ Underlying ∷ Contract ∷ Opening ∷ []
 
 -- the kind that a code says, if it is in the table (house)
-abbrev pub kind_coded : ℕ → KindCoded
-kind_coded = coded code_of KindAnswer.Listed KindAnswer.Unlisted kinds
+abbrev pub kind_coded : ℕ → Result Kind Unlisted
+kind_coded = coded code_of Ok (Err not_listed) kinds
 
 -- column "Fields (bytes)"; of a day end n and m, whose figures follow (house)
 abbrev pub fields_of : Kind → List ℕ

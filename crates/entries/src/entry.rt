@@ -31,18 +31,12 @@ impl Entry {
         match self {
             Entry::Deposit(_) => Kind::Deposit,
             Entry::Withdraw(_) => Kind::Withdraw,
-            Entry::Lock {
-                underlying: _,
-                units: _,
-            } => Kind::Lock,
-            Entry::Unlock {
-                underlying: _,
-                units: _,
-            } => Kind::Unlock,
+            Entry::Lock { .. } => Kind::Lock,
+            Entry::Unlock { .. } => Kind::Unlock,
             Entry::Order(_) => Kind::Order,
             Entry::Fill(_) => Kind::Fill,
-            Entry::Cancel { number: _ } => Kind::Cancel,
-            Entry::DayEnd { n: _, m: _ } => Kind::DayEnd,
+            Entry::Cancel { .. } => Kind::Cancel,
+            Entry::DayEnd { .. } => Kind::DayEnd,
             Entry::Pay => Kind::Pay,
             Entry::Drop => Kind::Drop,
             Entry::Underlying(_) => Kind::Underlying,
@@ -51,30 +45,14 @@ impl Entry {
         }
     }
 
-    // The resting order that it names, by its number; 0 is no order's.
+    // The resting order that it names, by its number; 0 is no order's. No Option: a fill's record may carry the 0 itself.
     pub fn order_named(self) -> u32
         ensures { result ≡ order_named self }
     {
         match self {
-            Entry::Deposit(_) => 0,
-            Entry::Withdraw(_) => 0,
-            Entry::Lock {
-                underlying: _,
-                units: _,
-            } => 0,
-            Entry::Unlock {
-                underlying: _,
-                units: _,
-            } => 0,
-            Entry::Order(_) => 0,
             Entry::Fill(fill) => fill.number,
             Entry::Cancel { number } => number,
-            Entry::DayEnd { n: _, m: _ } => 0,
-            Entry::Pay => 0,
-            Entry::Drop => 0,
-            Entry::Underlying(_) => 0,
-            Entry::Contract(_) => 0,
-            Entry::Opening(_) => 0,
+            _ => 0,
         }
     }
 
@@ -83,25 +61,8 @@ impl Entry {
         ensures { result ≡ contract_named self rests }
     {
         match self {
-            Entry::Deposit(_) => rests,
-            Entry::Withdraw(_) => rests,
-            Entry::Lock {
-                underlying: _,
-                units: _,
-            } => rests,
-            Entry::Unlock {
-                underlying: _,
-                units: _,
-            } => rests,
             Entry::Order(order) => order.contract,
-            Entry::Fill(_) => rests,
-            Entry::Cancel { number: _ } => rests,
-            Entry::DayEnd { n: _, m: _ } => rests,
-            Entry::Pay => rests,
-            Entry::Drop => rests,
-            Entry::Underlying(_) => rests,
-            Entry::Contract(_) => rests,
-            Entry::Opening(_) => rests,
+            _ => rests,
         }
     }
 
@@ -110,25 +71,8 @@ impl Entry {
         ensures { result ≡ underlying_named self of }
     {
         match self {
-            Entry::Deposit(_) => of,
-            Entry::Withdraw(_) => of,
-            Entry::Lock {
-                underlying,
-                units: _,
-            } => underlying,
-            Entry::Unlock {
-                underlying,
-                units: _,
-            } => underlying,
-            Entry::Order(_) => of,
-            Entry::Fill(_) => of,
-            Entry::Cancel { number: _ } => of,
-            Entry::DayEnd { n: _, m: _ } => of,
-            Entry::Pay => of,
-            Entry::Drop => of,
-            Entry::Underlying(_) => of,
-            Entry::Contract(_) => of,
-            Entry::Opening(_) => of,
+            Entry::Lock { underlying, .. } | Entry::Unlock { underlying, .. } => underlying,
+            _ => of,
         }
     }
 }
@@ -149,7 +93,7 @@ pub struct Fill {
     pub price: u32,
 }
 
-#[derive(Clone, Copy)]
+#[derive(Clone, Copy, Default)]
 pub struct Underlying {
     pub class: Class,
     pub close: u32,
@@ -158,7 +102,7 @@ pub struct Underlying {
     pub daily: u16,
 }
 
-#[derive(Clone, Copy)]
+#[derive(Clone, Copy, Default)]
 pub struct Contract {
     pub underlying: u16,
     pub right: Right,
@@ -168,15 +112,9 @@ pub struct Contract {
 }
 
 // A day end's n settlements and m closes; what stands past n and m is no part of the entry.
+// Document 01 names this form, arrays beside the entry, and a library has no heap for a `Vec`.
 #[derive(Clone, Copy)]
 pub struct Figures {
     pub settlements: [u32; terms::CONTRACTS],
     pub closes: [u32; terms::UNDERLYINGS],
-}
-
-// What a kind and its fields say: an entry, or a code that is not listed.
-#[derive(Clone, Copy)]
-pub enum EntryCoded {
-    Listed(Entry),
-    Unlisted,
 }

@@ -2,76 +2,65 @@
 ghost use Rattle.std.specs.Prelude.{◌≡◌};
 ghost use Rattle.entries.specs.Table.{code_of, kind_coded, length_of, length_fits, is_day_end};
 
-#[derive(Clone, Copy)]
+use terms::Unlisted;
+
+// The code of each stands beside it.
+#[derive(Clone, Copy, PartialEq, Eq)]
 pub enum Kind {
-    Deposit,
-    Withdraw,
-    Lock,
-    Unlock,
-    Order,
-    Fill,
-    Cancel,
-    DayEnd,
-    Pay,
-    Drop,
-    Underlying,
-    Contract,
-    Opening,
+    Deposit = 1,
+    Withdraw = 2,
+    Lock = 3,
+    Unlock = 4,
+    Order = 5,
+    Fill = 6,
+    Cancel = 7,
+    DayEnd = 8,
+    Pay = 9,
+    Drop = 10,
+    Underlying = 16,
+    Contract = 17,
+    Opening = 18,
 }
 
-// What a code says.
-#[derive(Clone, Copy)]
-pub enum KindCoded {
-    Listed(Kind),
-    Unlisted,
+impl From<Kind> for u16 {
+    ghost from_gives = { λ kind code. code ≡ code_of kind };
+
+    fn from(kind: Kind) -> u16 {
+        kind as u16
+    }
+}
+
+// An impl for this list of words alone: what the four lists share is std's trait.
+impl TryFrom<u16> for Kind {
+    type Error = Unlisted;
+
+    ghost try_from_gives = { λ code kind. kind ≡ kind_coded code };
+
+    fn try_from(code: u16) -> Result<Kind, Unlisted> {
+        match code {
+            1 => Ok(Kind::Deposit),
+            2 => Ok(Kind::Withdraw),
+            3 => Ok(Kind::Lock),
+            4 => Ok(Kind::Unlock),
+            5 => Ok(Kind::Order),
+            6 => Ok(Kind::Fill),
+            7 => Ok(Kind::Cancel),
+            8 => Ok(Kind::DayEnd),
+            9 => Ok(Kind::Pay),
+            10 => Ok(Kind::Drop),
+            16 => Ok(Kind::Underlying),
+            17 => Ok(Kind::Contract),
+            18 => Ok(Kind::Opening),
+            _ => Err(Unlisted),
+        }
+    }
 }
 
 impl Kind {
-    pub fn code(self) -> u16
-        ensures { result ≡ code_of self }
-    {
-        match self {
-            Kind::Deposit => 1,
-            Kind::Withdraw => 2,
-            Kind::Lock => 3,
-            Kind::Unlock => 4,
-            Kind::Order => 5,
-            Kind::Fill => 6,
-            Kind::Cancel => 7,
-            Kind::DayEnd => 8,
-            Kind::Pay => 9,
-            Kind::Drop => 10,
-            Kind::Underlying => 16,
-            Kind::Contract => 17,
-            Kind::Opening => 18,
-        }
-    }
-
-    pub fn coded(code: u16) -> KindCoded
-        ensures { result ≡ kind_coded code }
-    {
-        match code {
-            1 => KindCoded::Listed(Kind::Deposit),
-            2 => KindCoded::Listed(Kind::Withdraw),
-            3 => KindCoded::Listed(Kind::Lock),
-            4 => KindCoded::Listed(Kind::Unlock),
-            5 => KindCoded::Listed(Kind::Order),
-            6 => KindCoded::Listed(Kind::Fill),
-            7 => KindCoded::Listed(Kind::Cancel),
-            8 => KindCoded::Listed(Kind::DayEnd),
-            9 => KindCoded::Listed(Kind::Pay),
-            10 => KindCoded::Listed(Kind::Drop),
-            16 => KindCoded::Listed(Kind::Underlying),
-            17 => KindCoded::Listed(Kind::Contract),
-            18 => KindCoded::Listed(Kind::Opening),
-            _ => KindCoded::Unlisted,
-        }
-    }
-
     pub fn is_day_end(self) -> bool
         ensures { result ≡ is_day_end self }
     {
-        self.code() == 8
+        self == Kind::DayEnd
     }
 
     // The length of the record without a day end's figures.
@@ -79,19 +68,13 @@ impl Kind {
         ensures { result ≡ length_of self 0 0 }
     {
         match self {
-            Kind::Deposit => 12,
-            Kind::Withdraw => 12,
-            Kind::Lock => 10,
-            Kind::Unlock => 10,
-            Kind::Order => 20,
-            Kind::Fill => 16,
+            Kind::Pay | Kind::Drop => 4,
             Kind::Cancel => 8,
             Kind::DayEnd => 8,
-            Kind::Pay => 4,
-            Kind::Drop => 4,
-            Kind::Underlying => 16,
-            Kind::Contract => 20,
-            Kind::Opening => 12,
+            Kind::Lock | Kind::Unlock => 10,
+            Kind::Deposit | Kind::Withdraw | Kind::Opening => 12,
+            Kind::Fill | Kind::Underlying => 16,
+            Kind::Order | Kind::Contract => 20,
         }
     }
 
@@ -101,7 +84,7 @@ impl Kind {
         ensures { result ≡ length_fits self length }
     {
         if self.is_day_end() {
-            (16 <= length) & (length <= 296) & (length % 4 == 0)
+            (16..=296).contains(&length) && length % 4 == 0
         } else {
             length == self.length()
         }

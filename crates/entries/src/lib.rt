@@ -1,9 +1,10 @@
 // The entries of the book, and the table that their records go by.
 #![tactic(auto)]
 
-pub mod counts;
+mod day_end;
 mod entry;
 mod kind;
 
-pub use entry::{Contract, Entry, EntryCoded, Figures, Fill, Order, Underlying};
-pub use kind::{Kind, KindCoded};
+pub use day_end::Counts;
+pub use entry::{Contract, Entry, Figures, Fill, Order, Underlying};
+pub use kind::Kind;

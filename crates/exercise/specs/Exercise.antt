@@ -1,16 +1,15 @@
 -- A request for exercise on the expiry evening (#105). K strike in 0.0001 yuan, U unit; what is offered is fen for a call, units of the underlying for a put.
-use Rattle.std.specs.Prelude.{ℕ, ◌*◌, ◌≤◌, ◌≡◌, Bool, true, ◌&&◌, leb}
+use Rattle.std.specs.Prelude.{ℕ, ◌*◌, ◌≤◌, ◌≡◌, Bool, true, ◌&&◌, leb, Ok}
 use Rattle.terms.specs.Counts.{units_for}
 use Rattle.terms.specs.Ranges.{range_of, unit_allowed, ◌∈◌}
-use Rattle.terms.specs.Verdicts.{◌else◌then◌}
+use Rattle.terms.specs.Verdicts.{◌else◌then◌, accept}
 use Rattle.terms.specs.declared.count.Contracts.{Contracts}
 use Rattle.terms.specs.declared.count.Position.{Position}
 use Rattle.terms.specs.declared.measure.Measure.TheVariants.{Exercise, Price}
 use Rattle.terms.specs.declared.refusal.Refusal.TheVariants.{OutOfRange, LongTooSmall, MeansTooSmall}
 use Rattle.terms.specs.declared.right.Right.{Right}
 use Rattle.terms.specs.declared.right.Right.TheVariants.{Call, Put}
-use Rattle.terms.specs.declared.verdict.Verdict.{Verdict}
-use Rattle.terms.specs.declared.verdict.Verdict.TheVariants.{Accepted}
+use Rattle.terms.specs.Verdicts.{Verdict}
 use Rattle.rules.specs.Netting.{netted}
 
 -- "a requested count outside 1 to 10,000" is refused (#105), and so is a strike or a unit outside its range (Numbers)
@@ -37,7 +36,7 @@ exercise_verdict right K U position count offered =
     request_allowed K U count else OutOfRange then
     leb count.0 (long_left position) else LongTooSmall then
     leb (taken right K U count) (brought right offered) else MeansTooSmall then
-    Accepted
+    accept
 
 -- a good request: "long after netting covers it", and the means "reach" what it takes (#105)
 pub record Good (right : Right) (K U : ℕ) (position : Position) (count : Contracts) (offered : ℕ) : Type 0 where

@@ -7,7 +7,7 @@ ghost use Rattle.exercise.specs.Exercise.{exercise_verdict, request_allowed, tak
 use rules::net;
 use terms::{Contracts, Measure, Position, Refusal, Right, Units, Verdict, unit_allowed};
 
-// What is offered is fen for a call, units of the underlying for a put.
+// What is offered is fen for a call, units of the underlying for a put. The parameters are the definition's (`exercise_verdict`).
 #[tactic(auto, unfolding(crate::specs::Exercise::exercise_verdict, crate::specs::Exercise::request_allowed, crate::specs::Exercise::long_left))]
 pub fn exercise(
     right: Right,
@@ -25,15 +25,15 @@ pub fn exercise(
     let netted = net(position);
     let covered = count.0 <= netted.long.0;
     if !allowed {
-        return Verdict::Refused(Refusal::OutOfRange);
+        return Err(Refusal::OutOfRange);
     }
     if !covered {
-        return Verdict::Refused(Refusal::LongTooSmall);
+        return Err(Refusal::LongTooSmall);
     }
     if !reached(right, strike, unit, count, offered) {
-        return Verdict::Refused(Refusal::MeansTooSmall);
+        return Err(Refusal::MeansTooSmall);
     }
-    Verdict::Accepted
+    Ok(())
 }
 
 // Asked once the ranges hold: they keep strike times unit times the count within 64 bits.
@@ -54,6 +54,6 @@ fn paid(strike: u32, units: Units, offered: u64) -> bool
     ensures { result ≡ leb (strike * units.0) (100 * offered) }
 {
     let due = strike as u64 * units.0;
-    let fen = (due + 99) / 100;
-    fen <= offered
+    // No `div_ceil`: rustc compiles this source too, from Rust 1.63 on (`host/native`), which has none.
+    (due + 99) / 100 <= offered
 }

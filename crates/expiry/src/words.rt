@@ -1,40 +1,31 @@
 // The words of a line: what stands between blanks.
-ghost use Rattle.std.specs.Prelude.{◌≤◌, max, length};
+ghost use Rattle.std.specs.Prelude.{◌<◌, length, OnSome};
+ghost use Rattle.std.specs.Iterator.{at_most};
 
-// Where the next word starts: the line's end where there is none.
-pub fn start(l: &[u8], from: usize) -> usize
-    ensures { result ≤ length l.now }
-{
-    let mut at = from;
-    while at < l.len() {
-        if !blank(l[at]) {
-            return at;
-        }
-        at += 1;
+// What is left of the line.
+#[derive(Drop)]
+pub struct Words<'a>(pub &'a [u8]);
+
+impl<'a> Iterator for Words<'a> {
+    type Item = &'a [u8];
+
+    ghost next_gives = { λ before word after. OnSome word (length after.0.now < length before.0.now) };
+
+    ghost remaining = { λ words. at_most (length words.0.now) };
+
+    fn next(&mut self) -> Option<&'a [u8]> {
+        let line = self.0;
+        let start = line.iter().take_while(|b| blank(**b)).count();
+        let line = &line[start..];
+        let (_, behind) = line.split_first()?;
+        let end = 1 + behind.iter().take_while(|b| !blank(**b)).count();
+        let (word, rest) = line.split_at(end);
+        self.0 = rest;
+        Some(word)
     }
-    l.len()
-}
-
-// Where the word that starts at `from` ends.
-pub fn end(l: &[u8], from: usize) -> usize
-    ensures { (from ≤ result) × (result ≤ max from (length l.now)) }
-{
-    let mut at = from;
-    while at < l.len() {
-        if blank(l[at]) {
-            return at;
-        }
-        at += 1;
-    }
-    at
-}
-
-// Whether no word is left.
-pub fn none(l: &[u8], from: usize) -> bool {
-    start(l, from) == l.len()
 }
 
 // Lines of other systems end with CR and LF.
 fn blank(b: u8) -> bool {
-    (b == b' ') | (b == b'\t') | (b == b'\r')
+    matches!(b, b' ' | b'\t' | b'\r')
 }

@@ -5,6 +5,8 @@ use Prim.Native.Nat.{ℕ, ◌+◌, ◌*◌, ◌^◌, ◌≤◌, ◌<◌}
 use native.Mathlib.Nat.{le_of_lt, mul-le-mul}
 use native.Mathlib.Omega.{arith}
 use borrow.Author.Tests.{not-false, lt-ltb}
+use Rattle.std.specs.Prelude.{Ok}
+use Rattle.terms.specs.Verdicts.{accept}
 use Rattle.terms.specs.Kinds.{moves_of, opens_of}
 use Rattle.terms.specs.Ranges.{range_of, ◌∈◌}
 use Rattle.terms.specs.declared.kind.OrderKind.{OrderKind}
@@ -20,7 +22,6 @@ use Rattle.account.specs.Orders.{order_allowed}
 use Rattle.account.specs.Sound.{Sound, as_order}
 use Rattle.account.specs.declared.account.Account.{Account}
 use Rattle.account.specs.declared.judged.Named.{Named}
-use Rattle.terms.specs.declared.verdict.Verdict.TheVariants.{Accepted}
 use Rattle.account.specs.declared.tables.Tables.{Tables}
 use Rattle.account.proofs.Allowed.{contract_known}
 use Rattle.account.proofs.Bounds.{count_of_lem, one_hold, one_margin, one_premium, order_figures, row_of_lem, sheet_sound}
@@ -71,7 +72,7 @@ module _ (t : Tables) (a : Account) (sound : Sound t a) where
         let figures = order_figures (as_order f.order) values in
         small _ _ (omega (arith, before)) (le_of_lt (one_hold sound.tables _ its_contract (kind_of f.order) _ figures.price))
 
-    exact : fill_verdict f fill ≡ Accepted → Exact f fill (kind_of f.order) (paid f fill)
+    exact : fill_verdict f fill ≡ accept → Exact f fill (kind_of f.order) (paid f fill)
     unfolding named for_count
     exact accepted =
         let kind = kind_of f.order in

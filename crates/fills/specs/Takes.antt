@@ -1,5 +1,6 @@
 -- What the facts of a fill and of a cancel satisfy in a sound account: what is taken off is there, and what is added to stays small.
-use Rattle.std.specs.Prelude.{◌≡◌, Bool, true, false, not, ℕ, ◌+◌, ◌*◌, ◌^◌, ◌≤◌, ◌<◌}
+use Rattle.std.specs.Prelude.{◌≡◌, Bool, true, false, not, ℕ, ◌+◌, ◌*◌, ◌^◌, ◌≤◌, ◌<◌, Ok}
+use Rattle.terms.specs.Verdicts.{accept}
 use Rattle.terms.specs.Kinds.{moves_of, opens_of, buys_of}
 use Rattle.terms.specs.Ranges.{range_of, unit_allowed, ◌∈◌}
 use Rattle.terms.specs.declared.kind.OrderKind.{OrderKind}
@@ -12,7 +13,6 @@ use Rattle.account.specs.Money.{kind_of}
 use Rattle.terms.specs.Sums.{◌when◌}
 use Rattle.account.specs.Totals.{count_of, is_kind}
 use Rattle.account.specs.declared.judged.Named.{Named}
-use Rattle.terms.specs.declared.verdict.Verdict.TheVariants.{Accepted}
 
 -- a number that may be shifted up or down by another: up it fits so many bits, down there is so much
 pub record Shifts (bits : ℕ) (up : Bool) (x by : ℕ) : Type 0 where
@@ -38,7 +38,7 @@ pub record Fillable (f : Named) (fill : Fill) : Type 0 where
   pub unit : unit_allowed f.unit ≡ true
   pub ceiling : f.sheet.cash + f.sheet.premium ≤ 1_000_000_000_000_000
   pub most : paid f fill ≤ 100 * 10_000_000_000
-  pub exact : fill_verdict f fill ≡ Accepted → Exact f fill (kind_of f.order) (paid f fill)
+  pub exact : fill_verdict f fill ≡ accept → Exact f fill (kind_of f.order) (paid f fill)
 
 -- what a cancel takes off is there
 pub record Cancellable (f : Named) : Type 0 where

@@ -18,9 +18,8 @@ pub(crate) fn sheet_after(named: Named, kind: OrderKind, fill: Fill, sum: u64) -
 {
     let q = fill.quantity as u64;
     let share = q * named.hold;
-    let sheet = named.sheet;
     let side = kind.moves();
-    let freed = posted(sheet, Posting::HoldFreed(share));
+    let freed = posted(named.sheet, Posting::HoldFreed(share));
     let paid = posted(freed, premium_posting(side, kind.buys(), sum));
     match side {
         Side::Long => paid,
@@ -58,24 +57,18 @@ pub(crate) fn moved(side: Side, opens: bool, quantity: u32, position: Position) 
     requires { Shifts 32 opens (count_of side position) quantity }
     ensures { result ≡ moved side opens quantity position }
 {
-    let long = position.long;
-    let short = position.short;
-    let covered = position.covered;
     match side {
         Side::Long => Position {
-            long: counted(opens, long, quantity),
-            short,
-            covered,
+            long: counted(opens, position.long, quantity),
+            ..position
         },
         Side::Short => Position {
-            long,
-            short: counted(opens, short, quantity),
-            covered,
+            short: counted(opens, position.short, quantity),
+            ..position
         },
         Side::Covered => Position {
-            long,
-            short,
-            covered: counted(opens, covered, quantity),
+            covered: counted(opens, position.covered, quantity),
+            ..position
         },
     }
 }
@@ -99,8 +92,8 @@ pub(crate) fn order_after(order: Resting, quantity: u32) -> Resting
     if order.left.0 == quantity {
         return Resting::free();
     }
-    let mut after = order;
-    let left = Contracts(order.left.0 - quantity);
-    after.left = left;
-    after
+    Resting {
+        left: Contracts(order.left.0 - quantity),
+        ..order
+    }
 }

@@ -6,20 +6,18 @@ ghost use Rattle.account.specs.Seen.{Wherever};
 ghost use Rattle.resting.specs.Found.{NumberSees};
 ghost use Rattle.fills.specs.Takes.{Cancellable};
 
-use account::{Change, Decision, Holding, Named, Resting, Seen, Waiting, counted};
+use account::{Change, Decision, Holding, Named, Seen, counted};
 use entries::Entry;
 use postings::{Posting, posted};
-use resting::{Found, find};
-use terms::{Contracts, Refusal};
+use resting::find;
+use terms::{Contracts, OrderKind, Refusal};
 
-pub fn cancel(seen: Seen) -> Decision
+pub fn cancel(seen: Seen) -> Result<Decision, Refusal>
     requires { NumberSees seen }
     ensures { (number : ℕ) → Wherever (Entry.Cancel number) seen (λ t a. result ≡ decided (cancel_verdict (named t a number)) (cancel_change (named t a number))) }
 {
-    let Found::At(named) = find(seen) else {
-        return Decision::Refused(Refusal::NoSuchOrder);
-    };
-    Decision::Changes(change(named))
+    let named = find(seen).ok_or(Refusal::NoSuchOrder)?;
+    Ok(Decision::Changes(change(named)))
 }
 
 #[tactic(auto, unfolding(account::specs::Fills::cancel_change, rules::specs::Count::for_count))]
@@ -27,22 +25,17 @@ fn change(named: Named) -> Change
     requires { Cancellable named }
     ensures { result ≡ cancel_change named }
 {
-    let order = named.order;
-    let left = order.left.0 as u64;
+    let left = named.order.left.0;
     let before = named.holding;
-    let locked = before.locked;
-    let own = counted(left, order.kind == 1);
-    let bought = Contracts((before.bought.0 as u64 - own) as u32);
-    let sheet = named.sheet;
-    let freed = posted(sheet, Posting::HoldFreed(left * named.hold));
-    Change::without_position(
-        freed,
-        Waiting::Stays,
-        named.place,
-        Resting::free(),
-        named.unit,
-        named.underlying as usize,
-        Holding { locked, bought },
-        named.last,
-    )
+    let freed = posted(named.sheet, Posting::HoldFreed(left as u64 * named.hold));
+    Change {
+        place: named.place,
+        unit: named.unit,
+        underlying: named.underlying as usize,
+        holding: Holding {
+            locked: before.locked,
+            bought: Contracts(before.bought.0 - counted(left, named.order.is(OrderKind::BuyOpen))),
+        },
+        ..Change::of_sheet(freed, None, named.last)
+    }
 }

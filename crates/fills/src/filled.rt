@@ -6,29 +6,27 @@ ghost use Rattle.account.specs.Seen.{SeenOf, Wherever};
 ghost use Rattle.fills.specs.Takes.{Exact, Fillable};
 
 use crate::after::{moved, order_after, sheet_after};
-use account::{Change, Decision, Named, Seen, Waiting};
+use account::{Change, Decision, Named, Seen};
 use entries::{Entry, Fill};
 use money::premium_one;
-use resting::{Found, find, kind_of};
+use resting::{find, kind_of};
 use terms::{Measure, OrderKind, Refusal};
 
-pub fn fill(seen: Seen, fill: Fill) -> Decision
+pub fn fill(seen: Seen, fill: Fill) -> Result<Decision, Refusal>
     requires { SeenOf (Entry.Fill fill) seen }
     ensures { Wherever (Entry.Fill fill) seen (λ t a. result ≡ decided (fill_verdict (named t a fill.number) fill) (fill_change (named t a fill.number) fill)) }
 {
     if !(Measure::Quantity.allows(fill.quantity as u64)
         & Measure::Price.allows(fill.price as u64))
     {
-        return Decision::Refused(Refusal::OutOfRange);
+        return Err(Refusal::OutOfRange);
     }
-    let Found::At(named) = find(seen) else {
-        return Decision::Refused(Refusal::NoSuchOrder);
-    };
+    let named = find(seen).ok_or(Refusal::NoSuchOrder)?;
     decide(named, fill)
 }
 
 // The order is there and the fill's values are in their ranges. A sell brings money and may pass the ceiling; what a buy pays was held for it.
-fn decide(named: Named, fill: Fill) -> Decision
+fn decide(named: Named, fill: Fill) -> Result<Decision, Refusal>
     requires { Fillable named fill }
     ensures { result ≡ decided (fill_verdict named fill) (fill_change named fill) }
 {
@@ -38,12 +36,12 @@ fn decide(named: Named, fill: Fill) -> Decision
     let buys = kind.buys();
     let sum = fill.quantity as u64 * premium_one(fill.price, named.unit);
     if !((fill.quantity <= order.left.0) & price_allowed(buys, order.price, fill.price)) {
-        return Decision::Refused(Refusal::FillBarred);
+        return Err(Refusal::FillBarred);
     }
     if !(buys | Measure::Money.allows(sheet.cash + sheet.premium + sum)) {
-        return Decision::Refused(Refusal::CeilingPassed);
+        return Err(Refusal::CeilingPassed);
     }
-    Decision::Changes(change(named, kind, fill, sum))
+    Ok(Decision::Changes(change(named, kind, fill, sum)))
 }
 
 // A buy may not fill above its price nor a sell below it.
@@ -59,18 +57,16 @@ fn change(named: Named, kind: OrderKind, fill: Fill, sum: u64) -> Change
     ensures { result ≡ fill_change named fill }
 {
     let order = named.order;
-    let position = named.position;
-    let holding = named.holding;
     Change {
         sheet: sheet_after(named, kind, fill, sum),
-        waiting: Waiting::Stays,
+        waiting: None,
         contract: order.contract as usize,
-        position: moved(kind.moves(), kind.opens(), fill.quantity, position),
+        position: moved(kind.moves(), kind.opens(), fill.quantity, named.position),
         place: named.place,
         order: order_after(order, fill.quantity),
         unit: named.unit,
         underlying: named.underlying as usize,
-        holding,
+        holding: named.holding,
         last: named.last,
     }
 }

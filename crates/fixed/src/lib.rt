@@ -1,7 +1,7 @@
 // The two tables that `edges` and `runs` book on: small ones, and full ones with every row taken.
 #![tactic(auto)]
 
-ghost use Rattle.std.specs.Prelude.{◌≡◌, cond, true, ◌≤◌, ◌<◌};
+ghost use Rattle.std.specs.Prelude.{◌≡◌, ℕ, cond, true, ◌≤◌, ◌<◌, get_or, length};
 ghost use Rattle.account.specs.Rows.{no_contract, no_underlying};
 ghost use Rattle.account.specs.Sound.{SoundTables, contract_allowed, underlying_allowed};
 ghost use Rattle.fixed.specs.Rows.{Filled, count, in_turn, right_of};
@@ -29,16 +29,22 @@ fn rows(full: bool, few: usize, all: usize) -> usize
     if full { all } else { few }
 }
 
+// Each row by its number.
+fn fill<T: Copy, F: Fn(usize) -> T>(rows: &mut [T], row_of: F)
+    requires { (i : ℕ) → i < length rows.old → F.pre row_of i }
+    ensures { (i : ℕ) (none : T) → i < length rows.old → F.post row_of i (get_or rows.new i none) }
+{
+    for (i, row) in rows.iter_mut().enumerate() {
+        *row = row_of(i);
+    }
+}
+
 fn underlyings(full: bool, m: usize) -> [Underlying; terms::UNDERLYINGS]
     requires { m ≤ 8 }
     ensures { Filled 8 no_underlying (λ p. underlying_allowed p ≡ true) result m }
 {
-    let mut rows = [underlying(Class::Stock, 0, 0, 0, 0); terms::UNDERLYINGS];
-    let mut u = 0;
-    while u < m {
-        rows[u] = underlying_of(full, u);
-        u += 1;
-    }
+    let mut rows = [Underlying::default(); terms::UNDERLYINGS];
+    fill(&mut rows[..m], |u| underlying_of(full, u));
     rows
 }
 
@@ -61,12 +67,8 @@ fn contracts(full: bool, n: usize) -> [Contract; terms::CONTRACTS]
     requires { n ≤ 64 }
     ensures { Filled 64 no_contract (λ k. contract_allowed (count full) k ≡ true) result n }
 {
-    let mut rows = [contract(0, Right::Call, 0, 0, 0); terms::CONTRACTS];
-    let mut c = 0;
-    while c < n {
-        rows[c] = contract_of(full, c as u16);
-        c += 1;
-    }
+    let mut rows = [Contract::default(); terms::CONTRACTS];
+    fill(&mut rows[..n], |c| contract_of(full, c as u16));
     rows
 }
 
@@ -94,7 +96,7 @@ fn in_turn(c: u16) -> Contract
     requires { c < 64 }
     ensures { result ≡ in_turn c }
 {
-    let k = c as u32;
+    let k = u32::from(c);
     contract(c % 8, right(c), 20_000 + 300 * k, 100 * (1 + k), 10 * k)
 }
 
@@ -104,6 +106,7 @@ fn right(c: u16) -> Right
     if c < 32 { Right::Call } else { Right::Put }
 }
 
+// A row on one line, so that the tables above read as tables: with its fields named each row would take seven.
 fn underlying(class: Class, close: u32, rights: u16, total: u16, daily: u16) -> Underlying
     ensures { result ≡ record { class = class; close = close; rights = rights; total = total; daily = daily } }
 {

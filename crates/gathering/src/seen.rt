@@ -1,54 +1,43 @@
-// What an entry sees of tables and account, handed over whole.
+// What an entry sees of tables and account, read where they lie.
 ghost use Rattle.std.specs.Prelude.{◌≡◌};
 ghost use Rattle.account.specs.Seen.{row_of, seen_by};
-ghost use Rattle.account.specs.Sound.{Sound};
 
 use crate::place::place_of;
 use account::{Account, Seen, Tables};
 use entries::Entry;
+use terms::{CONTRACTS, PLACES, UNDERLYINGS};
 
-pub fn see(tables: Tables, account: Account, entry: Entry) -> Seen
-    requires { Sound tables account }
-    ensures { result ≡ seen_by tables account entry }
+pub fn see(tables: &Tables, account: &Account, entry: Entry) -> Seen
+    ensures { result ≡ seen_by tables.now account.now entry }
 {
-    let orders = account.orders;
-    let place = place_of(orders, entry.order_named());
-    let i = row(terms::PLACES, place);
+    let place = place_of(&account.orders, entry.order_named());
+    let i = row(PLACES, place);
     let order = account.orders[i];
-    let c = row(
-        terms::CONTRACTS,
-        entry.contract_named(order.contract) as usize,
-    );
+    let c = row(CONTRACTS, entry.contract_named(order.contract) as usize);
     let contract = tables.contracts[c];
     let u = row(
-        terms::UNDERLYINGS,
+        UNDERLYINGS,
         entry.underlying_named(contract.underlying) as usize,
     );
-    let position = account.positions[c];
-    let closing = account.closing[c];
-    let limits = tables.underlyings[u];
-    let holding = account.holdings[u];
-    let running = account.running[u];
-    let sheet = account.sheet;
     Seen {
         n: tables.n,
         m: tables.m,
-        sheet,
+        sheet: account.sheet,
         waiting: account.waiting,
         last: account.last,
         free: account.free,
         place,
         order,
         contract,
-        position,
-        closing,
-        limits,
-        holding,
-        running,
+        position: account.positions[c],
+        closing: account.closing[c],
+        limits: tables.underlyings[u],
+        holding: account.holdings[u],
+        running: account.running[u],
     }
 }
 
-// The row of a number, or the first where it names none.
+// The row of a number, or the first where it names none: one that is not asked, as the definition has it (`row_of`).
 pub fn row(rows: usize, number: usize) -> usize
     ensures { result ≡ row_of rows number }
 {

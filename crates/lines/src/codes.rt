@@ -1,23 +1,15 @@
 // The words of an example. It names a listed code; any other stands for the last word, since an entry and a margin are asked with words.
-use terms::{Class, ClassCoded, OrderKind, OrderKindCoded, Right, RightCoded};
+// One function over `TryFrom` would take the last word too, and be `unwrap_or` again.
+use terms::{Class, OrderKind, Right};
 
 pub fn class(code: u16) -> Class {
-    let ClassCoded::Listed(class) = Class::coded(code) else {
-        return Class::Fund;
-    };
-    class
+    Class::try_from(code).unwrap_or(Class::Fund)
 }
 
 pub fn right(code: u16) -> Right {
-    let RightCoded::Listed(right) = Right::coded(code) else {
-        return Right::Put;
-    };
-    right
+    Right::try_from(code).unwrap_or(Right::Put)
 }
 
 pub fn order_kind(code: u16) -> OrderKind {
-    let OrderKindCoded::Listed(kind) = OrderKind::coded(code) else {
-        return OrderKind::CoveredClose;
-    };
-    kind
+    OrderKind::try_from(code).unwrap_or(OrderKind::CoveredClose)
 }

@@ -4,3 +4,5 @@
 pub mod codes;
 pub mod input;
 pub mod output;
+pub mod records;
+pub mod width;

@@ -1,10 +1,9 @@
 // What one contract costs: its margin, its premium, and what an order holds for it.
 ghost use Rattle.std.specs.Prelude.{◌≡◌};
-ghost use Rattle.rules.specs.Charges.{fen_in};
 ghost use Rattle.money.specs.Charged.{hold_charged, margin_charged, premium_charged};
 
 use entries::{Contract, Underlying};
-use rules::{Charge, margin, premium};
+use rules::{margin, premium};
 use terms::OrderKind;
 
 pub fn hold_one(kind: OrderKind, contract: Contract, row: Underlying, price: u32) -> u64
@@ -20,34 +19,25 @@ pub fn hold_one(kind: OrderKind, contract: Contract, row: Underlying, price: u32
     }
 }
 
+// The figures of a sound account are in their ranges, so a charge is never refused there.
+#[tactic(auto, unfolding(rules::specs::Charges::fen_in))]
 pub fn margin_one(contract: Contract, row: Underlying) -> u64
     ensures { result ≡ margin_charged contract row }
 {
-    let class = row.class;
-    let right = contract.right;
-    fen(margin(
-        class,
-        right,
+    margin(
+        row.class,
+        contract.right,
         contract.settlement,
         row.close,
         contract.strike,
         contract.unit,
-    ))
+    )
+    .unwrap_or(0)
 }
 
+#[tactic(auto, unfolding(rules::specs::Charges::fen_in))]
 pub fn premium_one(price: u32, unit: u32) -> u64
     ensures { result ≡ premium_charged price unit }
 {
-    fen(premium(price, unit))
-}
-
-// The figures of a sound account are in their ranges, so a charge is never refused there.
-#[tactic(auto, unfolding(rules::specs::Charges::fen_in))]
-fn fen(charge: Charge) -> u64
-    ensures { result ≡ fen_in charge }
-{
-    match charge {
-        Charge::Fen(fen) => fen,
-        Charge::Refused(_) => 0,
-    }
+    premium(price, unit).unwrap_or(0)
 }

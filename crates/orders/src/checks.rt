@@ -1,6 +1,7 @@
 // The verdict on an order, by its facts.
-ghost use Rattle.std.specs.Prelude.{◌≡◌, map, ◌+◌, leb, get_or};
-ghost use Rattle.account.specs.Checks.{Available, columns, order_verdict, passes, refusal_for};
+ghost use Rattle.std.specs.Prelude.{◌≡◌, map, ◌+◌, leb};
+ghost use Rattle.terms.specs.Verdicts.{accept, ◌else◌then◌};
+ghost use Rattle.account.specs.Checks.{columns, order_verdict, passes, refusal_for};
 
 use account::Facts;
 use entries::Order;
@@ -23,35 +24,55 @@ const CHECKS: [bool; 54] = [
 pub(crate) fn verdict(facts: Facts, order: Order) -> Verdict
     ensures { result ≡ order_verdict facts order }
 {
-    let kind = order.kind;
-    let row = COLUMNS * (kind.code() as usize - 1);
-    let passed = passed(facts, order);
-    let mut i = 0;
-    while i < COLUMNS {
-        if CHECKS[row + i] & !passed[i] {
-            return Verdict::Refused(refusal(i));
+    let row = COLUMNS * (u16::from(order.kind) as usize - 1);
+    let checks = checks(facts, order);
+    // By the column, which the flags go by too.
+    for (column, check) in checks.iter().enumerate() {
+        if CHECKS[row + column] {
+            (*check)?;
         }
-        i += 1;
     }
-    Verdict::Accepted
+    Ok(())
 }
 
 // The nine checks, in the columns' order.
-fn passed(facts: Facts, order: Order) -> [bool; COLUMNS]
-    ensures { result ≡ map (λ check. passes check facts order) columns }
+fn checks(facts: Facts, order: Order) -> [Verdict; COLUMNS]
+    ensures { result ≡ map (λ check. passes check facts order else refusal_for check then accept) columns }
 {
     let limits = facts.limits;
+    let daily = facts.holding.bought;
     [
-        facts.allowed,
-        facts.last < order.number,
-        facts.place < terms::PLACES,
-        room(facts.closing.0, order.quantity, facts.position.0),
-        room(facts.rights.0, order.quantity, limits.rights as u32),
-        room(facts.total.0, order.quantity, limits.total as u32),
-        room(facts.holding.bought.0, order.quantity, limits.daily as u32),
-        facts.needed.0 <= facts.spare.0,
-        within(facts.hold, facts.available),
+        test(facts.allowed, Refusal::OutOfRange),
+        test(facts.last < order.number, Refusal::StaleNumber),
+        test(facts.place < terms::PLACES, Refusal::OrdersFull),
+        test(
+            room(facts.closing.0, order.quantity, facts.position.0),
+            Refusal::PositionTooSmall,
+        ),
+        test(
+            room(facts.rights.0, order.quantity, limits.rights as u32),
+            Refusal::RightsPassed,
+        ),
+        test(
+            room(facts.total.0, order.quantity, limits.total as u32),
+            Refusal::TotalPassed,
+        ),
+        test(
+            room(daily.0, order.quantity, limits.daily as u32),
+            Refusal::DailyPassed,
+        ),
+        test(facts.needed.0 <= facts.spare.0, Refusal::SpareTooFew),
+        test(
+            within(facts.hold, facts.available),
+            Refusal::AvailablePassed,
+        ),
     ]
+}
+
+fn test(passed: bool, why: Refusal) -> Verdict
+    ensures { result ≡ (passed else why then accept) }
+{
+    if passed { Ok(()) } else { Err(why) }
 }
 
 // The new order counted; a sum equal to the limit is accepted.
@@ -59,21 +80,4 @@ fn room(taken: u32, quantity: u32, limit: u32) -> bool
     ensures { result ≡ leb (taken + quantity) limit }
 {
     taken as u64 + quantity as u64 <= limit as u64
-}
-
-// What failing a column gives.
-fn refusal(column: usize) -> Refusal
-    ensures { result ≡ refusal_for (get_or columns column Available) }
-{
-    match column {
-        0 => Refusal::OutOfRange,
-        1 => Refusal::StaleNumber,
-        2 => Refusal::OrdersFull,
-        3 => Refusal::PositionTooSmall,
-        4 => Refusal::RightsPassed,
-        5 => Refusal::TotalPassed,
-        6 => Refusal::DailyPassed,
-        7 => Refusal::SpareTooFew,
-        _ => Refusal::AvailablePassed,
-    }
 }

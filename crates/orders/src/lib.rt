@@ -15,15 +15,13 @@ use change::change;
 use checks::verdict;
 use entries::{Entry, Order};
 use gathering::gather;
-use terms::Verdict;
+use terms::Refusal;
 
-pub fn order(seen: Seen, order: Order) -> Decision
+pub fn order(seen: Seen, order: Order) -> Result<Decision, Refusal>
     requires { SeenOf (Entry.Order order) seen }
     ensures { Wherever (Entry.Order order) seen (λ t a. result ≡ decided (order_verdict (facts_of t a order) order) (order_change (facts_of t a order) order)) }
 {
     let facts = gather(seen, order);
-    match verdict(facts, order) {
-        Verdict::Refused(why) => Decision::Refused(why),
-        Verdict::Accepted => Decision::Changes(change(facts, order)),
-    }
+    verdict(facts, order)?;
+    Ok(Decision::Changes(change(facts, order)))
 }

@@ -21,42 +21,47 @@ pub enum Posting {
     DayEnd { margin: u64, waiting: u64 },
 }
 
-// The sheet after a posting, by value.
+// The sheet after a posting, by value: an arm for each, since each moves another field of it.
 fn after(sheet: Sheet, posting: Posting) -> Sheet
     requires { Postable sheet posting }
     ensures value { result ≡ posted sheet posting }
 {
-    let mut after = sheet;
     match posting {
-        Posting::HoldTaken(sum) => {
-            after.holds = sheet.holds + sum;
-        }
-        Posting::HoldFreed(sum) => {
-            after.holds = sheet.holds - sum;
-        }
-        Posting::CashIn(sum) => {
-            after.cash = sheet.cash + sum;
-        }
-        Posting::CashOut(sum) => {
-            after.cash = sheet.cash - sum;
-        }
-        Posting::CoveredPremium(sum) => {
-            after.premium = sheet.premium + sum;
-        }
-        Posting::MarginTaken(sum) => {
-            after.margin = sheet.margin + sum;
-        }
-        Posting::MarginFreed(sum) => {
-            after.margin = sheet.margin - sum;
-        }
-        Posting::DayEnd { margin, waiting } => {
-            after.cash = sheet.cash + sheet.premium;
-            after.premium = 0;
-            after.holds = waiting;
-            after.margin = margin;
-        }
+        Posting::HoldTaken(sum) => Sheet {
+            holds: sheet.holds + sum,
+            ..sheet
+        },
+        Posting::HoldFreed(sum) => Sheet {
+            holds: sheet.holds - sum,
+            ..sheet
+        },
+        Posting::CashIn(sum) => Sheet {
+            cash: sheet.cash + sum,
+            ..sheet
+        },
+        Posting::CashOut(sum) => Sheet {
+            cash: sheet.cash - sum,
+            ..sheet
+        },
+        Posting::CoveredPremium(sum) => Sheet {
+            premium: sheet.premium + sum,
+            ..sheet
+        },
+        Posting::MarginTaken(sum) => Sheet {
+            margin: sheet.margin + sum,
+            ..sheet
+        },
+        Posting::MarginFreed(sum) => Sheet {
+            margin: sheet.margin - sum,
+            ..sheet
+        },
+        Posting::DayEnd { margin, waiting } => Sheet {
+            cash: sheet.cash + sheet.premium,
+            premium: 0,
+            holds: waiting,
+            margin,
+        },
     }
-    after
 }
 
 // The posting itself: the sheet is lent, and holds the new sums afterwards.

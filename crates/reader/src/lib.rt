@@ -7,6 +7,7 @@ ghost use Rattle.reader.specs.Reader.{found_at, moved_on};
 
 use reading::{Answer, Reading, read};
 
+// Document 01 names this form: a byte slice and an offset into it.
 #[derive(Drop)]
 pub struct Reader<'a> {
     pub bytes: &'a [u8],
@@ -20,19 +21,6 @@ pub struct Read {
     pub next: usize,
 }
 
-// The answer at a place: a record that is read is passed over, one that is refused is not.
-fn find(bytes: &[u8], place: usize) -> Read
-    ensures found { result ≡ found_at bytes.now place }
-{
-    let reading = read(bytes, place);
-    let answer = reading.answer;
-    let next = match answer {
-        Answer::Found { entry: _, length } => place + length,
-        Answer::Refused { why: _, place: _ } => place,
-    };
-    Read { reading, next }
-}
-
 impl<'a> Reader<'a> {
     // A reader stands at the first record.
     pub fn new(bytes: &'a [u8]) -> Reader<'a>
@@ -42,13 +30,17 @@ impl<'a> Reader<'a> {
     }
 
     // The next record's answer. The reader stands behind the record afterwards, or where it stood if it was refused.
+    #[tactic(auto, using(reading::proofs::Within::found_within))]
     pub fn next(&mut self) -> Reading
         ensures answer { result ≡ read_at self.old.bytes.now self.old.place }
         ensures moved { self.new ≡ moved_on self.old }
     {
-        let found = find(self.bytes, self.place);
-        self.place = found.next;
-        found.reading
+        let reading = read(self.bytes, self.place);
+        match reading.answer {
+            Answer::Found { length, .. } => self.place += length,
+            Answer::Refused { .. } => {}
+        }
+        reading
     }
 }
 

@@ -1,12 +1,8 @@
 -- A record that was read is at least 4 bytes long and lies within the bytes: its length counts the head, and one that runs past the end is refused. Every refusal of reading is 1, 2 or 3.
-use mathlib.Core.Path.{◌≡◌, refl}
-use mathlib.Core.Bool.{Bool, true, false, cond, not, ◌&&◌}
-use mathlib.Core.List.{List}
-use Prim.Native.Nat.{ℕ, ◌≤◌, ◌%◌}
-use native.Mathlib.Omega.{arith}
-use borrow.Author.Tests.{eqb-true, ltb-false, not-false}
-use lib.Dec.{eqb, ltb}
-use lib.ListN.{length, drop}
+use Rattle.std.proofs.Common.{sym, ap, subst, ◌∙◌, ◌+◌, length-drop, ◌≡◌, refl, Bool, true, false, cond, not, ◌&&◌, List, ℕ, ◌≤◌, ◌%◌, arith, eqb-true, ltb-false, eqb, ltb, length, drop, Result, Ok, Err}
+use Rattle.std.proofs.lemmas.Bool.{not-false}
+use Rattle.terms.specs.declared.unlisted.Unlisted.{Unlisted}
+use Rattle.entries.specs.declared.entry.Entry.{Entry}
 use Rattle.terms.specs.Ranges.{◌to◌, ◌∈◌}
 use Rattle.terms.specs.declared.refusal.Refusal.{Refusal}
 use Rattle.terms.specs.declared.refusal.Refusal.TheVariants.{CutShort, Misshapen}
@@ -14,13 +10,9 @@ use Rattle.terms.specs.Refusals.{number_of}
 use Rattle.terms.proofs.Ranges.{first_holds, inside}
 use Rattle.entries.specs.Entries.{entry_of, no_figures}
 use Rattle.entries.specs.Table.{counts_fit, is_day_end, length_fits, length_of}
-use Rattle.entries.specs.declared.entry.EntryCoded.{EntryCoded}
-use Rattle.entries.specs.declared.entry.EntryCoded.TheVariants as Entry·answer
 use Rattle.entries.specs.declared.entry.Figures.{Figures}
 use Rattle.entries.specs.declared.kind.Kind.{Kind}
 use Rattle.entries.specs.declared.kind.Kind.TheVariants.{DayEnd}
-use Rattle.entries.specs.declared.kind.KindCoded.{KindCoded}
-use Rattle.entries.specs.declared.kind.KindCoded.TheVariants as Kind·answer
 use Rattle.reading.specs.Reading.{◌at◌when◌else◌, counted, fields_at, figures_at, kind_at, known, length_at, listed, m_at, n_at, of_kind, read_at, read_from, whole_at}
 use Rattle.reading.specs.declared.Answer.{Answer}
 use Rattle.reading.specs.declared.Answer.TheVariants.{Found, Refused}
@@ -53,9 +45,9 @@ module _ (place : ℕ) (r : List ℕ) where
       tested CutShort (ltb (length r) len) (known place len f (entry_of kind (fields_at kind r))) (omega arith, omega arith)
       (λ there. go (entry_of kind (fields_at kind r)) (ltb-false (length r) len there))
     where
-      go : (coded : EntryCoded) → len ≤ length r → Within (length r) (known place len f coded).answer
-      go (Entry·answer.Listed entry) there = (long, there)
-      go Entry·answer.Unlisted there = (omega arith, omega arith)
+      go : (coded : (Result Entry Unlisted)) → len ≤ length r → Within (length r) (known place len f coded).answer
+      go (Ok entry) there = (long, there)
+      go (Err none) there = (omega arith, omega arith)
 
   kind_within : (kind : Kind) → Within (length r) (of_kind place r kind).answer
   unfolding of_kind counted
@@ -73,10 +65,16 @@ module _ (place : ℕ) (r : List ℕ) where
   unfolding read_from
   from_within = tested CutShort (ltb (length r) 4) (listed place r (kind_at r)) (omega arith, omega arith) (λ there. go (kind_at r))
     where
-      go : (coded : KindCoded) → Within (length r) (listed place r coded).answer
-      go (Kind·answer.Listed kind) = kind_within kind
-      go Kind·answer.Unlisted = (omega arith, omega arith)
+      go : (coded : (Result Kind Unlisted)) → Within (length r) (listed place r coded).answer
+      go (Ok kind) = kind_within kind
+      go (Err none) = (omega arith, omega arith)
 
 pub read_within : (s : List ℕ) (place : ℕ) → Within (length (drop place s)) (read_at s place).answer
 unfolding read_at
 read_within s place = from_within place (drop place s)
+
+-- a record that was found ends within the bytes
+pub found_within : (s : List ℕ) (place : ℕ) (reading : Reading) (entry : Entry) (len : ℕ) → reading ≡ read_at s place → reading.answer ≡ Found entry len → place + len ≤ length s
+found_within s place reading entry len is found =
+    let inside : Within (length (drop place s)) (Found entry len) = subst (Within (length (drop place s))) (ap (λ (r : Reading). r.answer) (sym is) ∙ found) (read_within s place) in
+    omega (arith, inside, length-drop place s)

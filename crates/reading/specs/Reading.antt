@@ -1,18 +1,16 @@
 -- Reading: "its answer is either the entry with its length or a refusal with the record's place" (Records). The tests are those of "Refusal numbers", its sentence from the last clause to the first, since a definition stands above its use.
-use Rattle.std.specs.Prelude.{ℕ, Bool, cond, not, List, ltb, length, drop}
+use Rattle.std.specs.Prelude.{ℕ, Bool, cond, not, List, ltb, length, drop, Result, Ok, Err}
+use Rattle.terms.specs.declared.unlisted.Unlisted.{Unlisted}
+use Rattle.entries.specs.declared.entry.Entry.{Entry}
 use Rattle.terms.specs.Refusals.{number_of}
 use Rattle.terms.specs.declared.refusal.Refusal.{Refusal}
 use Rattle.terms.specs.declared.refusal.Refusal.TheVariants.{CutShort, UnknownKind, Misshapen}
 use Rattle.entries.specs.Entries.{entry_of, figures_from, no_figures}
 use Rattle.entries.specs.Numbers.{number_at, numbers_at}
 use Rattle.entries.specs.Table.{kind_coded, fields_of, is_day_end, figures_of, length_fits, counts_fit}
-use Rattle.entries.specs.declared.entry.EntryCoded.{EntryCoded}
-use Rattle.entries.specs.declared.entry.EntryCoded.TheVariants as Entry·answer
 use Rattle.entries.specs.declared.entry.Figures.{Figures}
 use Rattle.entries.specs.declared.kind.Kind.{Kind}
 use Rattle.entries.specs.declared.kind.Kind.TheVariants.{DayEnd}
-use Rattle.entries.specs.declared.kind.KindCoded.{KindCoded}
-use Rattle.entries.specs.declared.kind.KindCoded.TheVariants as Kind·answer
 use Rattle.reading.specs.declared.Answer.{Answer}
 use Rattle.reading.specs.declared.Answer.TheVariants.{Found, Refused}
 use Rattle.reading.specs.declared.Reading.{Reading}
@@ -21,7 +19,7 @@ use Rattle.reading.specs.declared.Reading.{Reading}
 abbrev pub length_at : List ℕ → ℕ
 length_at r = number_at 2 r 0
 
-abbrev pub kind_at : List ℕ → KindCoded
+abbrev pub kind_at : List ℕ → Result Kind Unlisted
 kind_at r = kind_coded (number_at 2 r 2)
 
 abbrev pub n_at : List ℕ → ℕ
@@ -47,15 +45,20 @@ abbrev pub number_in : Answer → ℕ
 number_in (Found entry len) = 0
 number_in (Refused why place) = number_of why
 
+-- what is answered at a place where reading says so, or refuses (house)
+abbrev pub answered : ℕ → Result Reading Refusal → Reading
+answered place (Ok reading) = reading
+answered place (Err why) = refused why place
+
 infixr 5 ◌at◌when◌else◌
 -- a refusal where a test says so, else what comes next (house)
 abbrev pub ◌at◌when◌else◌ : Refusal → ℕ → Bool → Reading → Reading
 why at place when test else next = cond test (refused why place) next
 
 -- "codes 3", else the entry with its length and its figures beside it (house)
-abbrev pub known : ℕ → ℕ → Figures → EntryCoded → Reading
-known place len figures (Entry·answer.Listed entry) = record { answer = Found entry len; figures = figures }
-known place len figures Entry·answer.Unlisted = refused Misshapen place
+abbrev pub known : ℕ → ℕ → Figures → Result Entry Unlisted → Reading
+known place len figures (Ok entry) = record { answer = Found entry len; figures = figures }
+known place len figures (Err none) = refused Misshapen place
 
 -- "fewer bytes than the length 1; codes 3" (house)
 unfoldable pub whole_at : ℕ → List ℕ → ℕ → Kind → Figures → Reading
@@ -75,9 +78,9 @@ of_kind place r kind =
     cond (is_day_end kind) (counted place r (length_at r)) (whole_at place r (length_at r) kind no_figures)
 
 -- "then 2" (house)
-abbrev pub listed : ℕ → List ℕ → KindCoded → Reading
-listed place r (Kind·answer.Listed kind) = of_kind place r kind
-listed place r Kind·answer.Unlisted = refused UnknownKind place
+abbrev pub listed : ℕ → List ℕ → Result Kind Unlisted → Reading
+listed place r (Ok kind) = of_kind place r kind
+listed place r (Err none) = refused UnknownKind place
 
 -- "fewer than 4 bytes 1" (house)
 unfoldable pub read_from : ℕ → List ℕ → Reading

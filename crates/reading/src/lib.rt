@@ -3,19 +3,18 @@
 
 mod numbers;
 
-ghost use Rattle.std.specs.Prelude.{◌≡◌, ◌+◌, ◌*◌, ◌≤◌, length, drop};
+ghost use Rattle.std.specs.Prelude.{◌≡◌, ℕ, ◌+◌, ◌*◌, ◌≤◌, length, drop};
 ghost use Rattle.entries.specs.Entries.{entry_of, figures_from, no_figures};
 ghost use Rattle.entries.specs.Numbers.{numbers_at};
 ghost use Rattle.entries.specs.Table.{figures_of, length_of};
-ghost use Rattle.reading.specs.Reading.{fields_at, refused, whole_at, counted, of_kind, read_at};
+ghost use Rattle.reading.specs.Reading.{fields_at, refused, answered, whole_at, counted, read_from, read_at};
 
-use entries::{
-    Contract, Entry, EntryCoded, Figures, Fill, Kind, KindCoded, Order, Underlying, counts,
-};
-use numbers::{number2, number4, number8, numbers4};
-use terms::{Class, ClassCoded, OrderKind, OrderKindCoded, Refusal, Right, RightCoded};
+use entries::{Contract, Counts, Entry, Figures, Fill, Kind, Order, Underlying};
+use numbers::{Number, numbers4};
+use terms::{Class, OrderKind, Refusal, Right, Unlisted};
 
 // What stands at a place: an entry and how long its record is, or why there is none.
+// Document 01 names this form, an answer enum with the longer arrays beside it, in place of a `Result`.
 #[derive(Clone, Copy)]
 pub enum Answer {
     Found { entry: Entry, length: usize },
@@ -29,28 +28,17 @@ pub struct Reading {
 }
 
 // The record at a place, which may be any number.
-#[tactic(auto, unfolding(crate::specs::Reading::read_at, crate::specs::Reading::read_from))]
+#[tactic(auto, unfolding(crate::specs::Reading::read_at))]
 pub fn read(s: &[u8], place: usize) -> Reading
     ensures { result ≡ read_at s.now place }
 {
-    let r = rest(s, place);
-    if r.len() < 4 {
-        return refused(Refusal::CutShort, place);
-    }
-    let KindCoded::Listed(kind) = Kind::coded(number2(r, 2)) else {
-        return refused(Refusal::UnknownKind, place);
-    };
-    of_kind(r, place, kind)
+    record(rest(s, place)).unwrap_or_else(|why| refused(why, place))
 }
 
 fn rest(s: &[u8], place: usize) -> &[u8]
     ensures { result.now ≡ drop place s.now }
 {
-    if place <= s.len() {
-        &s[place..]
-    } else {
-        &s[..0]
-    }
+    s.get(place..).unwrap_or_default()
 }
 
 fn refused(why: Refusal, place: usize) -> Reading
@@ -62,149 +50,151 @@ fn refused(why: Refusal, place: usize) -> Reading
     }
 }
 
-#[tactic(auto, unfolding(crate::specs::Reading::of_kind, entries::specs::Table::length_fits))]
-fn of_kind(r: &[u8], place: usize, kind: Kind) -> Reading
-    requires { 4 ≤ length r.now }
-    ensures { result ≡ of_kind place r.now kind }
+// The record that bytes begin with, or why they begin with none.
+#[tactic(auto, unfolding(crate::specs::Reading::read_from, crate::specs::Reading::of_kind, entries::specs::Table::length_fits))]
+fn record(r: &[u8]) -> Result<Reading, Refusal>
+    ensures { (place : ℕ) → answered place result ≡ read_from place r.now }
 {
-    let size = number2(r, 0);
+    if r.len() < 4 {
+        return Err(Refusal::CutShort);
+    }
+    let size = u16::at(r, 0);
+    let kind = Kind::try_from(u16::at(r, 2)).map_err(|_| Refusal::UnknownKind)?;
     if !kind.fits(size) {
-        return refused(Refusal::Misshapen, place);
+        return Err(Refusal::Misshapen);
     }
     if kind.is_day_end() {
-        day_end(r, place, size)
+        day_end(r, size)
     } else {
-        whole(r, place, size as usize, kind)
+        whole(r, usize::from(size), kind)
     }
 }
 
 // The counts are judged as soon as they are there, before the figures are.
 #[tactic(auto, using(entries::proofs::Limits::counts_inside, entries::proofs::Runs::total_fours), unfolding(crate::specs::Reading::counted, crate::specs::Reading::whole_at, entries::specs::Table::counts_fit))]
-fn day_end(r: &[u8], place: usize, size: u16) -> Reading
-    ensures { result ≡ counted place r.now size }
+fn day_end(r: &[u8], size: u16) -> Result<Reading, Refusal>
+    ensures { (place : ℕ) → answered place result ≡ counted place r.now size }
 {
     if r.len() < 8 {
-        return refused(Refusal::CutShort, place);
+        return Err(Refusal::CutShort);
     }
-    let n = number2(r, 4);
-    let m = number2(r, 6);
-    if !counts::fit(n, m, size) {
-        return refused(Refusal::Misshapen, place);
+    let counts = Counts {
+        n: u16::at(r, 4),
+        m: u16::at(r, 6),
+    };
+    if !counts.fit(size) {
+        return Err(Refusal::Misshapen);
     }
-    if r.len() < size as usize {
-        return refused(Refusal::CutShort, place);
+    let length = usize::from(size);
+    if r.len() < length {
+        return Err(Refusal::CutShort);
     }
-    Reading {
-        answer: Answer::Found {
-            entry: Entry::DayEnd { n, m },
-            length: size as usize,
-        },
-        figures: figures_at(r, n as usize, m as usize),
-    }
+    let entry = Entry::DayEnd {
+        n: counts.n,
+        m: counts.m,
+    };
+    Ok(Reading {
+        answer: Answer::Found { entry, length },
+        figures: figures_at(r, counts),
+    })
 }
 
 #[tactic(auto, unfolding(crate::specs::Reading::whole_at))]
-fn whole(r: &[u8], place: usize, size: usize, kind: Kind) -> Reading
+fn whole(r: &[u8], size: usize, kind: Kind) -> Result<Reading, Refusal>
     requires { length_of kind 0 0 ≤ size }
-    ensures { result ≡ whole_at place r.now size kind no_figures }
+    ensures { (place : ℕ) → answered place result ≡ whole_at place r.now size kind no_figures }
 {
     if r.len() < size {
-        return refused(Refusal::CutShort, place);
+        return Err(Refusal::CutShort);
     }
-    let EntryCoded::Listed(entry) = fields(r, kind) else {
-        return refused(Refusal::Misshapen, place);
-    };
-    Reading {
+    let entry = fields(r, kind).map_err(|_| Refusal::Misshapen)?;
+    Ok(Reading {
         answer: Answer::Found {
             entry,
             length: size,
         },
         figures: no_figures(),
-    }
+    })
 }
 
 // The fields of a record that is all there. Of a day end, which `day_end` reads, they are the counts alone.
-fn fields(r: &[u8], kind: Kind) -> EntryCoded
+// This function and those below ask for the length of their own kinds, which one type over all kinds would say in no fewer words.
+fn fields(r: &[u8], kind: Kind) -> Result<Entry, Unlisted>
     requires { length_of kind 0 0 ≤ length r.now }
     ensures { result ≡ entry_of kind (fields_at kind r.now) }
 {
-    match kind {
-        Kind::Deposit => EntryCoded::Listed(Entry::Deposit(number8(r, 4))),
-        Kind::Withdraw => EntryCoded::Listed(Entry::Withdraw(number8(r, 4))),
-        Kind::Lock => EntryCoded::Listed(Entry::Lock {
-            underlying: number2(r, 4),
-            units: number4(r, 6),
+    Ok(match kind {
+        Kind::Deposit => Entry::Deposit(u64::at(r, 4)),
+        Kind::Withdraw => Entry::Withdraw(u64::at(r, 4)),
+        Kind::Lock => Entry::Lock {
+            underlying: u16::at(r, 4),
+            units: u32::at(r, 6),
+        },
+        Kind::Unlock => Entry::Unlock {
+            underlying: u16::at(r, 4),
+            units: u32::at(r, 6),
+        },
+        Kind::Order => order(r)?,
+        Kind::Fill => Entry::Fill(Fill {
+            number: u32::at(r, 4),
+            quantity: u32::at(r, 8),
+            price: u32::at(r, 12),
         }),
-        Kind::Unlock => EntryCoded::Listed(Entry::Unlock {
-            underlying: number2(r, 4),
-            units: number4(r, 6),
-        }),
-        Kind::Order => order(r),
-        Kind::Fill => EntryCoded::Listed(Entry::Fill(Fill {
-            number: number4(r, 4),
-            quantity: number4(r, 8),
-            price: number4(r, 12),
-        })),
-        Kind::Cancel => EntryCoded::Listed(Entry::Cancel {
-            number: number4(r, 4),
-        }),
-        Kind::DayEnd => EntryCoded::Listed(Entry::DayEnd {
-            n: number2(r, 4),
-            m: number2(r, 6),
-        }),
-        Kind::Pay => EntryCoded::Listed(Entry::Pay),
-        Kind::Drop => EntryCoded::Listed(Entry::Drop),
-        Kind::Underlying => underlying(r),
-        Kind::Contract => contract(r),
-        Kind::Opening => EntryCoded::Listed(Entry::Opening(number8(r, 4))),
-    }
+        Kind::Cancel => Entry::Cancel {
+            number: u32::at(r, 4),
+        },
+        Kind::DayEnd => Entry::DayEnd {
+            n: u16::at(r, 4),
+            m: u16::at(r, 6),
+        },
+        Kind::Pay => Entry::Pay,
+        Kind::Drop => Entry::Drop,
+        Kind::Underlying => underlying(r)?,
+        Kind::Contract => contract(r)?,
+        Kind::Opening => Entry::Opening(u64::at(r, 4)),
+    })
 }
 
-fn order(r: &[u8]) -> EntryCoded
+fn order(r: &[u8]) -> Result<Entry, Unlisted>
     requires { length_of Kind.Order 0 0 ≤ length r.now }
     ensures { result ≡ entry_of Kind.Order (fields_at Kind.Order r.now) }
 {
-    let OrderKindCoded::Listed(kind) = OrderKind::coded(number2(r, 10)) else {
-        return EntryCoded::Unlisted;
-    };
-    EntryCoded::Listed(Entry::Order(Order {
-        number: number4(r, 4),
-        contract: number2(r, 8),
+    let kind = OrderKind::try_from(u16::at(r, 10))?;
+    Ok(Entry::Order(Order {
+        number: u32::at(r, 4),
+        contract: u16::at(r, 8),
         kind,
-        quantity: number4(r, 12),
-        price: number4(r, 16),
+        quantity: u32::at(r, 12),
+        price: u32::at(r, 16),
     }))
 }
 
-fn underlying(r: &[u8]) -> EntryCoded
+// This and `contract` are alike in shape alone: each has its own fields and codes.
+fn underlying(r: &[u8]) -> Result<Entry, Unlisted>
     requires { length_of Kind.Underlying 0 0 ≤ length r.now }
     ensures { result ≡ entry_of Kind.Underlying (fields_at Kind.Underlying r.now) }
 {
-    let ClassCoded::Listed(class) = Class::coded(number2(r, 4)) else {
-        return EntryCoded::Unlisted;
-    };
-    EntryCoded::Listed(Entry::Underlying(Underlying {
+    let class = Class::try_from(u16::at(r, 4))?;
+    Ok(Entry::Underlying(Underlying {
         class,
-        close: number4(r, 6),
-        rights: number2(r, 10),
-        total: number2(r, 12),
-        daily: number2(r, 14),
+        close: u32::at(r, 6),
+        rights: u16::at(r, 10),
+        total: u16::at(r, 12),
+        daily: u16::at(r, 14),
     }))
 }
 
-fn contract(r: &[u8]) -> EntryCoded
+fn contract(r: &[u8]) -> Result<Entry, Unlisted>
     requires { length_of Kind.Contract 0 0 ≤ length r.now }
     ensures { result ≡ entry_of Kind.Contract (fields_at Kind.Contract r.now) }
 {
-    let RightCoded::Listed(right) = Right::coded(number2(r, 6)) else {
-        return EntryCoded::Unlisted;
-    };
-    EntryCoded::Listed(Entry::Contract(Contract {
-        underlying: number2(r, 4),
+    let right = Right::try_from(u16::at(r, 6))?;
+    Ok(Entry::Contract(Contract {
+        underlying: u16::at(r, 4),
         right,
-        strike: number4(r, 8),
-        unit: number4(r, 12),
-        settlement: number4(r, 16),
+        strike: u32::at(r, 8),
+        unit: u32::at(r, 12),
+        settlement: u32::at(r, 16),
     }))
 }
 
@@ -217,10 +207,12 @@ fn no_figures() -> Figures
     }
 }
 
-fn figures_at(r: &[u8], n: usize, m: usize) -> Figures
-    requires { (n ≤ 64) × (m ≤ 8) × (8 + 4 * (n + m) ≤ length r.now) }
-    ensures { result ≡ figures_from n m (numbers_at (figures_of n m) r.now 8) }
+fn figures_at(r: &[u8], counts: Counts) -> Figures
+    requires { (counts.n ≤ 64) × (counts.m ≤ 8) × (8 + 4 * (counts.n + counts.m) ≤ length r.now) }
+    ensures { result ≡ figures_from counts.n counts.m (numbers_at (figures_of counts.n counts.m) r.now 8) }
 {
+    let n = counts.n as usize;
+    let m = counts.m as usize;
     let mut settlements = [0; terms::CONTRACTS];
     let mut closes = [0; terms::UNDERLYINGS];
     numbers4(r, 8, &mut settlements[..n]);

@@ -1,26 +1,53 @@
-// Little-endian numbers of 2, 4 and 8 bytes, read from lent bytes.
-ghost use Rattle.std.specs.Prelude.{◌≡◌, ◌+◌, ◌*◌, ◌≤◌, length, replicate};
+// Little-endian numbers, read from lent bytes.
+ghost use Rattle.std.specs.Prelude.{◌≡◌, ℕ, ◌+◌, ◌*◌, ◌≤◌, length, replicate, take, drop};
 ghost use Rattle.entries.specs.Numbers.{number_at, numbers_at};
 
-pub(crate) fn number2(r: &[u8], at: usize) -> u16
-    requires { at + 2 ≤ length r.now }
-    ensures { result ≡ number_at 2 r.now at }
-{
-    r[at] as u16 + 256 * (r[at + 1] as u16)
+// A number as wide as its type. `writing` has a trait of its own: one for both would be public, and a public function asks nothing.
+pub(crate) trait Number: Sized {
+    ghost width: { ℕ };
+
+    ghost value: { Self → ℕ };
+
+    fn at(r: &[u8], at: usize) -> Self
+        requires { at + width ≤ length r.now }
+        ensures { value result ≡ number_at width r.now at };
 }
 
-pub(crate) fn number4(r: &[u8], at: usize) -> u32
-    requires { at + 4 ≤ length r.now }
-    ensures { result ≡ number_at 4 r.now at }
-{
-    number2(r, at) as u32 + 65_536 * (number2(r, at + 2) as u32)
+impl Number for u16 {
+    ghost width = { 2 };
+
+    ghost value = { λ x. x };
+
+    fn at(r: &[u8], at: usize) -> u16 {
+        u16::from_le_bytes(bytes_at(r, at))
+    }
 }
 
-pub(crate) fn number8(r: &[u8], at: usize) -> u64
-    requires { at + 8 ≤ length r.now }
-    ensures { result ≡ number_at 8 r.now at }
+impl Number for u32 {
+    ghost width = { 4 };
+
+    ghost value = { λ x. x };
+
+    fn at(r: &[u8], at: usize) -> u32 {
+        u32::from_le_bytes(bytes_at(r, at))
+    }
+}
+
+impl Number for u64 {
+    ghost width = { 8 };
+
+    ghost value = { λ x. x };
+
+    fn at(r: &[u8], at: usize) -> u64 {
+        u64::from_le_bytes(bytes_at(r, at))
+    }
+}
+
+fn bytes_at<const N: usize>(r: &[u8], at: usize) -> [u8; N]
+    requires { at + N ≤ length r.now }
+    ensures { result ≡ take N (drop at r.now) }
 {
-    number4(r, at) as u64 + 4_294_967_296 * (number4(r, at + 4) as u64)
+    r[at..at + N].try_into().unwrap()
 }
 
 // As many numbers of 4 bytes as there are places for.
@@ -29,9 +56,7 @@ pub(crate) fn numbers4(r: &[u8], at: usize, into: &mut [u32])
     requires { at + 4 * length into.old ≤ length r.now }
     ensures { into.new ≡ numbers_at (replicate (length into.old) 4) r.now at }
 {
-    let mut i = 0;
-    while i < into.len() {
-        into[i] = number4(r, at + 4 * i);
-        i += 1;
+    for (i, x) in into.iter_mut().enumerate() {
+        *x = u32::at(r, at + 4 * i);
     }
 }

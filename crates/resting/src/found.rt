@@ -7,18 +7,12 @@ use crate::named::named_at;
 use account::{Named, Seen};
 use entries::Entry;
 
-#[derive(Clone, Copy)]
-pub enum Found {
-    At(Named),
-    Nothing,
-}
-
-pub fn find(seen: Seen) -> Found
+pub fn find(seen: Seen) -> Option<Named>
     requires { NumberSees seen }
     ensures { (number : ℕ) → Wherever (Entry.Cancel number) seen (λ t a. result ≡ found_by t a number) }
 {
     if seen.place >= terms::PLACES {
-        return Found::Nothing;
+        return None;
     }
-    Found::At(named_at(seen))
+    Some(named_at(seen))
 }

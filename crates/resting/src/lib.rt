@@ -4,5 +4,5 @@
 mod found;
 mod named;
 
-pub use found::{Found, find};
+pub use found::find;
 pub use named::kind_of;

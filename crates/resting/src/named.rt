@@ -7,7 +7,7 @@ ghost use Rattle.account.specs.Seen.{Wherever};
 use account::{Named, Resting, Seen};
 use entries::Entry;
 use money::{hold_one, margin_one};
-use terms::{OrderKind, OrderKindCoded};
+use terms::OrderKind;
 
 pub(crate) fn named_at(seen: Seen) -> Named
     ensures { (number : ℕ) → Wherever (Entry.Cancel number) seen (λ t a. place_of a number < 32 → result ≡ named t a number) }
@@ -15,19 +15,16 @@ pub(crate) fn named_at(seen: Seen) -> Named
     let order = seen.order;
     let contract = seen.contract;
     let row = seen.limits;
-    let position = seen.position;
-    let holding = seen.holding;
-    let sheet = seen.sheet;
     Named {
         place: seen.place,
         order,
-        position,
+        position: seen.position,
         unit: contract.unit,
         underlying: contract.underlying,
-        holding,
+        holding: seen.holding,
         hold: hold_one(kind_of(order), contract, row, order.price),
         margin: margin_one(contract, row),
-        sheet,
+        sheet: seen.sheet,
         last: seen.last,
     }
 }
@@ -35,8 +32,5 @@ pub(crate) fn named_at(seen: Seen) -> Named
 pub fn kind_of(order: Resting) -> OrderKind
     ensures { result ≡ kind_of order }
 {
-    match OrderKind::coded(order.kind) {
-        OrderKindCoded::Listed(kind) => kind,
-        OrderKindCoded::Unlisted => OrderKind::BuyOpen,
-    }
+    OrderKind::try_from(order.kind).unwrap_or(OrderKind::BuyOpen)
 }

@@ -6,9 +6,8 @@ use Rattle.terms.specs.declared.refusal.Refusal.TheVariants.{OutOfRange, OutOfPl
 use Rattle.terms.specs.Listed.{every}
 use Rattle.account.specs.Rows.{contract, underlying}
 use Rattle.account.specs.Sound.{contract_allowed, underlying_allowed}
-use Rattle.terms.specs.Verdicts.{◌else◌then◌}
-use Rattle.terms.specs.declared.verdict.Verdict.{Verdict}
-use Rattle.terms.specs.declared.verdict.Verdict.TheVariants.{Accepted}
+use Rattle.terms.specs.Verdicts.{◌else◌then◌, accept}
+use Rattle.terms.specs.Verdicts.{Verdict}
 use Rattle.account.specs.declared.tables.Tables.{Tables}
 
 -- "up to 8 underlyings, 64 contracts", and the values of each in their ranges; rows past m and n are no part of the tables (Numbers)
@@ -21,4 +20,4 @@ unfoldable pub list_verdict : Tables → ℕ → Verdict
 list_verdict t cash =
     ltb 0 t.n else OutOfPlace then
     tables_allowed t && (cash ∈ range_of OpeningCash) else OutOfRange then
-    Accepted
+    accept

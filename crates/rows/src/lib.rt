@@ -3,9 +3,8 @@
 
 mod values;
 
-ghost use Rattle.std.specs.Prelude.{◌≡◌, ◌≤◌, get_or};
-ghost use Rattle.terms.specs.Listed.{every};
-ghost use Rattle.account.specs.Rows.{no_contract, no_underlying};
+ghost use Rattle.std.specs.Prelude.{◌≡◌};
+ghost use Rattle.std.specs.List.{list_all};
 ghost use Rattle.account.specs.Sound.{contract_allowed, underlying_allowed};
 ghost use Rattle.rows.specs.Given.{list_verdict};
 
@@ -18,52 +17,30 @@ pub use values::{contract_allowed, underlying_allowed};
 pub fn list_verdict(tables: Tables, cash: u64) -> Verdict
     ensures { result ≡ list_verdict tables cash }
 {
-    let m = tables.m;
-    let n = tables.n;
-    if n == 0 {
-        return Verdict::Refused(Refusal::OutOfPlace);
+    if tables.n == 0 {
+        return Err(Refusal::OutOfPlace);
     }
-    if (m > terms::UNDERLYINGS) | (n > terms::CONTRACTS) {
-        return Verdict::Refused(Refusal::OutOfRange);
+    if tables.m > terms::UNDERLYINGS || tables.n > terms::CONTRACTS {
+        return Err(Refusal::OutOfRange);
     }
-    let underlyings = tables.underlyings;
-    let contracts = tables.contracts;
-    if underlyings_allowed(underlyings, m)
-        & contracts_allowed(contracts, n, m)
-        & Measure::OpeningCash.allows(cash)
+    if underlyings_allowed(&tables.underlyings[..tables.m])
+        && contracts_allowed(&tables.contracts[..tables.n], tables.m)
+        && Measure::OpeningCash.allows(cash)
     {
-        Verdict::Accepted
+        Ok(())
     } else {
-        Verdict::Refused(Refusal::OutOfRange)
+        Err(Refusal::OutOfRange)
     }
 }
 
-fn underlyings_allowed(rows: [Underlying; terms::UNDERLYINGS], m: usize) -> bool
-    requires { m ≤ 8 }
-    ensures { result ≡ every m (λ u. underlying_allowed (get_or rows u no_underlying)) }
+fn underlyings_allowed(rows: &[Underlying]) -> bool
+    ensures { result ≡ list_all underlying_allowed rows.now }
 {
-    let mut u = 0;
-    while u < m {
-        let row = rows[u];
-        if !underlying_allowed(row) {
-            return false;
-        }
-        u += 1;
-    }
-    true
+    rows.iter().all(|row| underlying_allowed(*row))
 }
 
-fn contracts_allowed(rows: [Contract; terms::CONTRACTS], n: usize, m: usize) -> bool
-    requires { n ≤ 64 }
-    ensures { result ≡ every n (λ c. contract_allowed m (get_or rows c no_contract)) }
+fn contracts_allowed(rows: &[Contract], m: usize) -> bool
+    ensures { result ≡ list_all (contract_allowed m) rows.now }
 {
-    let mut c = 0;
-    while c < n {
-        let row = rows[c];
-        if !contract_allowed(m, row) {
-            return false;
-        }
-        c += 1;
-    }
-    true
+    rows.iter().all(|row| contract_allowed(m, *row))
 }

@@ -4,17 +4,19 @@ use mathlib.Core.Bool.{Bool, true, false, cond}
 use mathlib.Core.Logic.{◌⊎◌, inl, inr}
 use Prim.Native.Nat.{ℕ, ◌+◌, ◌-◌, ◌≤◌, ◌<◌}
 use native.Mathlib.Omega.{arith}
-use borrow.Author.Tests.{leb-true, leb-false, le-leb, lt-leb}
+use borrow.Author.Tests.{leb-true, leb-false}
+use Rattle.std.specs.Prelude.{max}
 use lib.Dec.{leb}
 use Rattle.rules.specs.Margin.{◌less◌but_at_least◌}
 
-pub reached : (a b floor : ℕ) → floor + b ≤ a → (a less b but_at_least floor) ≡ a - b
+-- as the code makes it: a difference below zero is 0, which the floor is not below
+pub as_greatest : (a b floor : ℕ) → max (a - b) floor ≡ (a less b but_at_least floor)
 unfolding ◌less◌but_at_least◌
-reached a b floor h = simp (le-leb _ _ h)
-
-pub unreached : (a b floor : ℕ) → a < floor + b → (a less b but_at_least floor) ≡ floor
-unfolding ◌less◌but_at_least◌
-unreached a b floor h = simp (lt-leb _ _ h)
+as_greatest a b floor = go (leb (floor + b) a) refl
+  where
+    go : (test : Bool) → leb (floor + b) a ≡ test → max (a - b) floor ≡ cond test (a - b) floor
+    go true t = let h = leb-true (floor + b) a t in omega arith
+    go false t = let h = leb-false (floor + b) a t in omega arith
 
 -- the greater of a - b and floor, in words that need no number below zero
 pub record Greater (a b floor greater : ℕ) : Type 0 where

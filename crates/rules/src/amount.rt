@@ -15,12 +15,10 @@ pub struct Rates {
 pub fn rates_of(class: Class, right: Right) -> Rates
     ensures { result ≡ rates_of class right }
 {
-    match class {
-        Class::Stock => match right {
-            Right::Call => Rates { r: 21, f: 10 },
-            Right::Put => Rates { r: 19, f: 10 },
-        },
-        Class::Fund => Rates { r: 12, f: 7 },
+    match (class, right) {
+        (Class::Stock, Right::Call) => Rates { r: 21, f: 10 },
+        (Class::Stock, Right::Put) => Rates { r: 19, f: 10 },
+        (Class::Fund, _) => Rates { r: 12, f: 7 },
     }
 }
 
@@ -38,20 +36,15 @@ pub fn amount(rates: Rates, right: Right, settlement: u32, close: u32, strike: u
         Right::Call => 100 * s + less(r * p, 100 * less(k, p, 0), f * p),
         Right::Put => {
             let uncapped = 100 * s + less(r * p, 100 * less(p, k, 0), f * k);
-            let cap = 100 * k;
-            if uncapped < cap { uncapped } else { cap }
+            uncapped.min(100 * k)
         }
     }
 }
 
 // a less b, but at least the floor. No difference is made that would be below zero.
-#[tactic(auto, using(crate::proofs::Less::reached, crate::proofs::Less::unreached))]
+#[tactic(auto, using(crate::proofs::Less::as_greatest))]
 fn less(a: u64, b: u64, floor: u64) -> u64
     ensures { result ≡ (a less b but_at_least floor) }
 {
-    if b <= a {
-        if floor <= a - b { a - b } else { floor }
-    } else {
-        floor
-    }
+    a.saturating_sub(b).max(floor)
 }

@@ -3,20 +3,14 @@
 
 mod amount;
 
-ghost use Rattle.std.specs.Prelude.{◌≡◌, min};
+ghost use Rattle.std.specs.Prelude.{◌≡◌};
 ghost use Rattle.rules.specs.Charges.{margin_charge, premium_charge};
 ghost use Rattle.rules.specs.Netting.{netted};
 
 use amount::{amount, rates_of};
 use terms::{Class, Contracts, Measure, Position, Refusal, Right, unit_allowed};
 
-// What one contract costs, or why that is not said.
-#[derive(Clone, Copy)]
-pub enum Charge {
-    Fen(u64),
-    Refused(Refusal),
-}
-
+// What one contract costs in fen, or why that is not said. The parameters are the definition's (`margin_charge`).
 #[tactic(auto, unfolding(crate::specs::Charges::margin_charge, crate::specs::Charges::margin_allowed))]
 pub fn margin(
     class: Class,
@@ -25,7 +19,7 @@ pub fn margin(
     close: u32,
     strike: u32,
     unit: u32,
-) -> Charge
+) -> Result<u64, Refusal>
     ensures { result ≡ margin_charge class right settlement close strike unit }
 {
     if Measure::Settlement.allows(settlement as u64)
@@ -34,20 +28,20 @@ pub fn margin(
         & unit_allowed(unit as u64)
     {
         let amount = amount(rates_of(class, right), right, settlement, close, strike);
-        Charge::Fen((unit as u64 * amount + 5_000) / 10_000)
+        Ok((unit as u64 * amount + 5_000) / 10_000)
     } else {
-        Charge::Refused(Refusal::OutOfRange)
+        Err(Refusal::OutOfRange)
     }
 }
 
 #[tactic(auto, unfolding(crate::specs::Charges::premium_charge, crate::specs::Charges::premium_allowed, crate::specs::Premium::premium_of))]
-pub fn premium(price: u32, unit: u32) -> Charge
+pub fn premium(price: u32, unit: u32) -> Result<u64, Refusal>
     ensures { result ≡ premium_charge price unit }
 {
     if Measure::Price.allows(price as u64) & unit_allowed(unit as u64) {
-        Charge::Fen(price as u64 * unit as u64 / 100)
+        Ok(price as u64 * unit as u64 / 100)
     } else {
-        Charge::Refused(Refusal::OutOfRange)
+        Err(Refusal::OutOfRange)
     }
 }
 
@@ -59,18 +53,12 @@ pub fn net(position: Position) -> Position
     let long = position.long.0;
     let short = position.short.0;
     let covered = position.covered.0;
-    let off_short = lesser(long, short);
+    let off_short = long.min(short);
     let left = long - off_short;
-    let off_covered = lesser(left, covered);
+    let off_covered = left.min(covered);
     Position {
         long: Contracts(left - off_covered),
         short: Contracts(short - off_short),
         covered: Contracts(covered - off_covered),
     }
-}
-
-pub fn lesser(a: u32, b: u32) -> u32
-    ensures { result ≡ min a b }
-{
-    if a < b { a } else { b }
 }

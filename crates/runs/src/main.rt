@@ -9,9 +9,9 @@ mod shown;
 ghost use Rattle.std.specs.Prelude.{◌≤◌};
 
 use asked::run_of;
-use lines::input::{STANDARD_INPUT, field, letter, line_end};
-use lines::output::text;
-use shown::{numbers, sums, told};
+use lines::input::{each_line_read, field, letter};
+use lines::output::{number, signed, text};
+use shown::{each, told};
 
 // Places of the arrays that a line's places are the first of.
 const PLACES: usize = 16;
@@ -22,18 +22,7 @@ const NUMBER_MARK: u8 = 255;
 const SUM_MARK: i64 = 7;
 
 fn main() {
-    let mut buffer = io::large_buffer();
-    let n = io::read_full(STANDARD_INPUT, &mut buffer);
-    run(&buffer[..n]);
-}
-
-fn run(s: &[u8]) {
-    let mut at = 0;
-    while at < s.len() {
-        let stop = line_end(s, at);
-        line(&s[at..stop]);
-        at = stop + 1;
-    }
+    each_line_read(line);
 }
 
 // Which fields say how many places are lent, for numbers and for sums. A line that asks nothing is a remark.
@@ -49,23 +38,20 @@ fn line(l: &[u8]) {
 }
 
 // All of both arrays is marked before and shown after, so that a place that was to be left alone shows.
+// Two arrays beside each other, as the C interface lends them (`ravundesk_run_book`).
 fn answer(l: &[u8], for_numbers: u64, for_sums: u64) {
     let mut numbered = [NUMBER_MARK; PLACES];
     let mut summed = [SUM_MARK; PLACES];
     let k = places(for_numbers);
     let j = places(for_sums);
-    told(run_of(l, &mut numbered[..k], &mut summed[..j]));
-    numbers(&numbered);
-    sums(&summed);
+    told(&run_of(l, &mut numbered[..k], &mut summed[..j]));
+    each(b" n", &numbered, |n| number(u64::from(n)));
+    each(b" s", &summed, signed);
 }
 
 // As many as are asked for, of those there are.
 fn places(asked: u64) -> usize
     ensures { result ≤ 16 }
 {
-    if asked < PLACES as u64 {
-        asked as usize
-    } else {
-        PLACES
-    }
+    PLACES.min(asked as usize)
 }

@@ -6,6 +6,7 @@ use native.Mathlib.Omega.{arith}
 use borrow.Author.Tests.{leb-true, lt-ltb, ltb-true}
 use lib.Dec.{leb, ltb}
 use lib.ListN.{length, length-set}
+use Rattle.std.specs.Prelude.{Ok, Err}
 use Rattle.terms.specs.Ranges.{range_of, unit_allowed, ◌∈◌}
 use Rattle.terms.specs.declared.measure.Measure.TheVariants.{OpeningCash, Price, Settlement}
 use Rattle.terms.specs.declared.refusal.Refusal.TheVariants.{OutOfPlace, OutOfRange}
@@ -20,10 +21,9 @@ use Rattle.terms.specs.Listed.{every}
 use Rattle.account.specs.Rows.{contract, no_contract, no_underlying}
 use Rattle.account.specs.Sound.{Sound, SoundTables, contract_allowed, underlying_allowed}
 use Rattle.account.specs.Steps.{account_after, outcome, refusal_of, step, tables_after}
-use Rattle.terms.specs.Verdicts.{◌else◌then◌}
+use Rattle.terms.specs.Verdicts.{◌else◌then◌, accept}
 use Rattle.account.specs.declared.judged.Outcome.{Outcome}
-use Rattle.terms.specs.declared.verdict.Verdict.{Verdict}
-use Rattle.terms.specs.declared.verdict.Verdict.TheVariants.{Accepted, Refused}
+use Rattle.terms.specs.Verdicts.{Verdict}
 use Rattle.account.specs.declared.tables.Tables.{Tables}
 use Rattle.account.proofs.Bounds.{four}
 use Rattle.terms.proofs.Listed.{each_passes}
@@ -71,13 +71,13 @@ still_allowed m k allowed =
     ap others (lt-ltb k.underlying (m + 1) (omega arith) ∙ sym there) ∙ allowed
 
 -- an accepted row was allowed, and there was room for it
-had_room : (allowed : Bool) (rows most : ℕ) → (allowed && ltb rows most else OutOfRange then Accepted) ≡ Accepted → (allowed ≡ true) × (rows < most)
+had_room : (allowed : Bool) (rows most : ℕ) → (allowed && ltb rows most else OutOfRange then accept) ≡ accept → (allowed ≡ true) × (rows < most)
 had_room allowed rows most accepted =
-    let both = (went_on (allowed && ltb rows most) OutOfRange Accepted accepted).0 in
+    let both = (went_on (allowed && ltb rows most) OutOfRange accept accepted).0 in
     (first_holds allowed (ltb rows most) both, ltb-true _ _ (second_holds allowed (ltb rows most) both))
 
 module _ (b : Book) (s : SoundBook b) where
-  underlying_sound : (row : Underlyings·of.Underlying) → underlying_verdict b.tables row ≡ Accepted → SoundBook (with_underlying b row)
+  underlying_sound : (row : Underlyings·of.Underlying) → underlying_verdict b.tables row ≡ accept → SoundBook (with_underlying b row)
   underlying_sound row accepted =
       let t = b.tables in
       let judged = had_room (underlying_allowed row) t.m 8 accepted in
@@ -90,7 +90,7 @@ module _ (b : Book) (s : SoundBook b) where
         contracts = λ c h. still_allowed t.m (contract t c) (s.tables.contracts c h);
       })
 
-  contract_sound : (row : Contracts·of.Contract) → contract_verdict b.tables row ≡ Accepted → SoundBook (with_contract b row)
+  contract_sound : (row : Contracts·of.Contract) → contract_verdict b.tables row ≡ accept → SoundBook (with_contract b row)
   contract_sound row accepted =
       let t = b.tables in
       let judged = had_room (contract_allowed t.m row) t.n 64 accepted in
@@ -104,7 +104,7 @@ module _ (b : Book) (s : SoundBook b) where
       })
 
   module _ (f : Figures) where
-    entry_sound : (entry : Entry) → code_of (kind_of entry) < 16 → in_place b.stage (code_of (kind_of entry)) ≡ true → refusal_of b.tables b.account entry f ≡ Accepted → SoundBook (with_entry b entry f)
+    entry_sound : (entry : Entry) → code_of (kind_of entry) < 16 → in_place b.stage (code_of (kind_of entry)) ≡ true → refusal_of b.tables b.account entry f ≡ accept → SoundBook (with_entry b entry f)
     unfolding step
     entry_sound entry few placed accepted =
         let after : Verdict → Outcome = λ v. outcome v b.tables b.account (tables_after b.tables entry f) (account_after b.tables b.account entry f) in
@@ -112,27 +112,27 @@ module _ (b : Book) (s : SoundBook b) where
         let next = subst (λ (v : Verdict). Sound (after v).tables (after v).account) accepted (step_sound b.tables b.account entry f before) in
         record { tables = next.tables; account = λ stands. next }
 
-    accepted_sound : (entry : Entry) → in_place b.stage (code_of (kind_of entry)) ≡ true → verdict b f entry ≡ Accepted → SoundBook (book_after b entry f)
+    accepted_sound : (entry : Entry) → in_place b.stage (code_of (kind_of entry)) ≡ true → verdict b f entry ≡ accept → SoundBook (book_after b entry f)
     unfolding book_after
     accepted_sound =
-        each_entry (λ entry. in_place b.stage (code_of (kind_of entry)) ≡ true → verdict b f entry ≡ Accepted → SoundBook (book_after b entry f))
+        each_entry (λ entry. in_place b.stage (code_of (kind_of entry)) ≡ true → verdict b f entry ≡ accept → SoundBook (book_after b entry f))
         (λ entry few placed e. subst SoundBook (sym (after_entry b f entry few)) (entry_sound entry few placed (sym (entry_verdict b f entry few) ∙ e)))
         (λ row placed e. underlying_sound row e)
         (λ row placed e. contract_sound row e)
-        (λ cash placed e. opened_sound b.tables cash s.tables (went_on _ OutOfRange Accepted e).0)
+        (λ cash placed e. opened_sound b.tables cash s.tables (went_on _ OutOfRange accept e).0)
 
 pub entered_sound : (b : Book) (entry : Entry) (f : Figures) → SoundBook b → SoundBook (entered b entry f).book
 unfolding entered record_verdict
 entered_sound b entry f s = go (record_verdict b entry f) refl
   where
     go : (v : Verdict) → record_verdict b entry f ≡ v → SoundBook (entered_as v b (book_after b entry f)).book
-    go Accepted e = let passed = went_on (in_place b.stage (code_of (kind_of entry))) OutOfPlace _ e in accepted_sound b s f entry passed.0 passed.1
-    go (Refused why) e = s
+    go (Ok tt) e = let passed = went_on (in_place b.stage (code_of (kind_of entry))) OutOfPlace _ e in accepted_sound b s f entry passed.0 passed.1
+    go (Err why) e = s
 
-pub list_sound : (t : Tables) (cash : ℕ) → length t.underlyings ≡ 8 → length t.contracts ≡ 64 → list_verdict t cash ≡ Accepted → SoundBook (opened t cash)
+pub list_sound : (t : Tables) (cash : ℕ) → length t.underlyings ≡ 8 → length t.contracts ≡ 64 → list_verdict t cash ≡ accept → SoundBook (opened t cash)
 unfolding list_verdict
 list_sound t cash underlyings contracts accepted =
-    let both = (went_on _ OutOfRange Accepted (went_on (ltb 0 t.n) OutOfPlace _ accepted).1).0 in
+    let both = (went_on _ OutOfRange accept (went_on (ltb 0 t.n) OutOfPlace _ accepted).1).0 in
     let known = four (leb t.m 8) (leb t.n 64) (every t.m _) (every t.n _) (first_holds (tables_allowed t) _ both) in
     let tables : SoundTables t =
     record {

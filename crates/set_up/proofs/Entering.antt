@@ -3,6 +3,7 @@ use mathlib.Core.Path.{◌≡◌, refl}
 use mathlib.Core.Bool.{true}
 use Prim.Native.Nat.{ℕ, ◌<◌}
 use native.Mathlib.Omega.{arith}
+use Rattle.std.specs.Prelude.{Ok, Err}
 use Rattle.terms.specs.Ranges.{◌to◌}
 use Rattle.terms.proofs.Ranges.{inside}
 use Rattle.entries.specs.Entries.{kind_of}
@@ -13,8 +14,7 @@ use Rattle.entries.specs.declared.entry.Entry.TheVariants.{Deposit, Withdraw, Lo
 use Rattle.entries.specs.declared.entry.Figures.{Figures}
 use Rattle.entries.specs.declared.entry.Underlying as Underlyings·of
 use Rattle.account.specs.Steps.{refusal_of}
-use Rattle.terms.specs.declared.verdict.Verdict.{Verdict}
-use Rattle.terms.specs.declared.verdict.Verdict.TheVariants.{Accepted, Refused}
+use Rattle.terms.specs.Verdicts.{Verdict}
 use Rattle.set_up.specs.Stages.{book_after, by_set_up, contract_verdict, entered, entered_as, in_place, opened, opening_verdict, record_verdict, underlying_verdict, with_contract, with_entry, with_underlying}
 use Rattle.set_up.specs.declared.stages.Book.{Book}
 use Rattle.set_up.specs.declared.stages.Stage.{Stage}
@@ -78,5 +78,5 @@ unfolding entered
 entered_verdict b entry f = go (record_verdict b entry f)
   where
     go : (v : Verdict) → (entered_as v b (book_after b entry f)).verdict ≡ v
-    go Accepted = refl
-    go (Refused why) = refl
+    go (Ok tt) = refl
+    go (Err why) = refl

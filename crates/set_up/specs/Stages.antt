@@ -1,5 +1,5 @@
 -- A record of a book at its stage: "a book is kinds 16, then 17, then one 18, then kinds 1 to 8; only an accepted record moves this order on" (Records); kinds 9 and 10 are entries too (#101).
-use Rattle.std.specs.Prelude.{ℕ, ◌+◌, Bool, ◌&&◌, ltb, replicate, set}
+use Rattle.std.specs.Prelude.{ℕ, ◌+◌, Bool, ◌&&◌, ltb, replicate, set, Ok, Err}
 use Rattle.terms.specs.Ranges.{range_of, ◌to◌, ◌∈◌}
 use Rattle.terms.specs.declared.measure.Measure.TheVariants.{OpeningCash}
 use Rattle.terms.specs.declared.refusal.Refusal.TheVariants.{OutOfRange, OutOfPlace}
@@ -14,9 +14,8 @@ use Rattle.account.specs.Opening.{opening}
 use Rattle.account.specs.Rows.{no_contract, no_underlying}
 use Rattle.account.specs.Sound.{contract_allowed, underlying_allowed}
 use Rattle.account.specs.Steps.{account_after, refusal_of, tables_after}
-use Rattle.terms.specs.Verdicts.{◌else◌then◌}
-use Rattle.terms.specs.declared.verdict.Verdict.{Verdict}
-use Rattle.terms.specs.declared.verdict.Verdict.TheVariants.{Accepted, Refused}
+use Rattle.terms.specs.Verdicts.{◌else◌then◌, accept}
+use Rattle.terms.specs.Verdicts.{Verdict}
 use Rattle.account.specs.declared.tables.Tables.{Tables}
 use Rattle.set_up.specs.declared.stages.Book.{Book}
 use Rattle.set_up.specs.declared.stages.Stage.{Stage}
@@ -60,15 +59,15 @@ by_set_up for_underlying for_contract for_opening other (Entry·of.Opening cash)
 
 -- "a value outside its range .. a 9th underlying" (Refusal numbers, 4)
 abbrev pub underlying_verdict : Tables → Underlying → Verdict
-underlying_verdict t row = underlying_allowed row && ltb t.m 8 else OutOfRange then Accepted
+underlying_verdict t row = underlying_allowed row && ltb t.m 8 else OutOfRange then accept
 
 -- "number not in the tables .. or 65th contract"; "a contract with no underlying before it is 4" (Refusal numbers, 4; Records)
 abbrev pub contract_verdict : Tables → Contract → Verdict
-contract_verdict t row = contract_allowed t.m row && ltb t.n 64 else OutOfRange then Accepted
+contract_verdict t row = contract_allowed t.m row && ltb t.n 64 else OutOfRange then accept
 
 -- "opening cash 0 to 10^15" (Numbers)
 abbrev pub opening_verdict : ℕ → Verdict
-opening_verdict cash = (cash ∈ range_of OpeningCash) else OutOfRange then Accepted
+opening_verdict cash = (cash ∈ range_of OpeningCash) else OutOfRange then accept
 
 -- "5 first, then 4"; an entry's further checks are the step's (Refusal numbers)
 unfoldable pub record_verdict : Book → Entry → Figures → Verdict
@@ -110,8 +109,8 @@ pub record Entered : Type 0 where
 
 -- "only an accepted record moves this order on"; "a refused set-up record takes no number"; "a refusal leaves the whole account equal" (Records; Refusal numbers)
 abbrev pub entered_as : Verdict → Book → Book → Entered
-entered_as Accepted b after = record { verdict = Accepted; book = after }
-entered_as (Refused why) b after = record { verdict = Refused why; book = b }
+entered_as (Ok tt) b after = record { verdict = accept; book = after }
+entered_as (Err why) b after = record { verdict = Err why; book = b }
 
 unfoldable pub entered : Book → Entry → Figures → Entered
 entered b entry f = entered_as (record_verdict b entry f) b (book_after b entry f)

@@ -1,15 +1,30 @@
-// A book made anew: by a row of its tables, by its opening, or by a day end.
+// A book after a record: changed by an entry, or made anew by a row of its tables, by its opening, or by a day end.
 ghost use Rattle.std.specs.Prelude.{◌≡◌, ◌<◌};
 ghost use Rattle.account.specs.Sound.{Sound};
 ghost use Rattle.day_end.specs.Ended.{FiguresTaken};
-ghost use Rattle.set_up.specs.Rulings.{RenewsOn, renewed_by, with_day_end};
+ghost use Rattle.set_up.specs.Rulings.{RenewsOn, RestsOn, renewed_by, ruled_by, with_day_end};
 ghost use Rattle.set_up.specs.Sound.{SoundBook};
 ghost use Rattle.set_up.specs.Stages.{with_contract, with_underlying};
 
-use crate::ruling::Renewal;
+use crate::ruling::{Renewal, Ruling};
 use crate::stages::{Book, Stage};
 use day_end::ended;
 use entries::{Contract, Figures, Underlying};
+use terms::Refusal;
+
+impl Book {
+    // The one place that writes what a record comes to: nothing where it is refused.
+    pub fn enter(&mut self, figures: &Figures, ruling: Result<Ruling, Refusal>)
+        requires { SoundBook self.old × RestsOn self.old figures.now ruling }
+        ensures { self.new ≡ ruled_by self.old figures.now ruling }
+    {
+        match ruling {
+            Err(_) => {}
+            Ok(Ruling::Changes(change)) => self.account.apply(change),
+            Ok(Ruling::Renews(renewal)) => *self = renewed(*self, *figures, renewal),
+        }
+    }
+}
 
 pub fn renewed(book: Book, figures: Figures, renewal: Renewal) -> Book
     requires { SoundBook book × RenewsOn book figures renewal }
@@ -18,27 +33,23 @@ pub fn renewed(book: Book, figures: Figures, renewal: Renewal) -> Book
     match renewal {
         Renewal::Underlying(row) => with_underlying(book, row),
         Renewal::Contract(row) => with_contract(book, row),
-        Renewal::Opening(cash) => {
-            let tables = book.tables;
-            Book::opened(tables, cash)
-        }
+        Renewal::Opening(cash) => Book::opened(book.tables, cash),
         Renewal::DayEnds => with_day_end(book, figures),
     }
 }
 
+// Not one function with `with_contract`: each has its own table, count and stage, and nothing else.
 fn with_underlying(book: Book, row: Underlying) -> Book
     requires { book.tables.m < 8 }
     ensures { result ≡ with_underlying book row }
 {
     let mut tables = book.tables;
-    let account = book.account;
-    let m = tables.m;
-    tables.underlyings[m] = row;
-    tables.m = m + 1;
+    tables.underlyings[tables.m] = row;
+    tables.m += 1;
     Book {
         stage: Stage::Underlyings,
         tables,
-        account,
+        ..book
     }
 }
 
@@ -47,14 +58,12 @@ fn with_contract(book: Book, row: Contract) -> Book
     ensures { result ≡ with_contract book row }
 {
     let mut tables = book.tables;
-    let account = book.account;
-    let n = tables.n;
-    tables.contracts[n] = row;
-    tables.n = n + 1;
+    tables.contracts[tables.n] = row;
+    tables.n += 1;
     Book {
         stage: Stage::Contracts,
         tables,
-        account,
+        ..book
     }
 }
 
@@ -63,14 +72,10 @@ fn with_day_end(book: Book, figures: Figures) -> Book
     requires { Sound book.tables book.account × FiguresTaken book.tables figures }
     ensures { result ≡ with_day_end book figures }
 {
-    let before = book.tables;
-    let account = book.account;
-    let outcome = ended(before, account, figures);
-    let tables = outcome.tables;
-    let account = outcome.account;
+    let after = ended(book.tables, book.account, figures);
     Book {
         stage: Stage::Entries,
-        tables,
-        account,
+        tables: after.tables,
+        account: after.account,
     }
 }

@@ -4,17 +4,17 @@ ghost use Rattle.set_up.specs.Stages.{new_book, opened, waiting};
 
 use account::{Account, Tables};
 use entries::{Contract, Underlying};
-use terms::{Class, Right};
 
 // What a book waits for: underlyings until a contract is accepted, contracts until the opening is, then entries.
-#[derive(Clone, Copy)]
+#[derive(Clone, Copy, PartialEq, Eq)]
 pub enum Stage {
-    Underlyings,
-    Contracts,
-    Entries,
+    Underlyings = 1,
+    Contracts = 2,
+    Entries = 3,
 }
 
-// Before the opening the account has nothing in it.
+// Before the opening the account has nothing in it. No ghost field says that it is sound: `run_list` gives back a book on tables that it
+// refused.
 #[derive(Clone, Copy)]
 pub struct Book {
     pub stage: Stage,
@@ -27,21 +27,9 @@ impl Book {
         ensures { result ≡ new_book }
     {
         let tables = Tables {
-            underlyings: [Underlying {
-                class: Class::Stock,
-                close: 0,
-                rights: 0,
-                total: 0,
-                daily: 0,
-            }; terms::UNDERLYINGS],
+            underlyings: [Underlying::default(); terms::UNDERLYINGS],
             m: 0,
-            contracts: [Contract {
-                underlying: 0,
-                right: Right::Call,
-                strike: 0,
-                unit: 0,
-                settlement: 0,
-            }; terms::CONTRACTS],
+            contracts: [Contract::default(); terms::CONTRACTS],
             n: 0,
         };
         Book {

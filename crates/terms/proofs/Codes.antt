@@ -5,16 +5,14 @@ use mathlib.Core.List.{List, [], ◌∷◌}
 use Prim.Native.Nat.{ℕ}
 use borrow.Author.Tests.{eqb-true}
 use lib.Dec.{eqb}
-use Rattle.terms.specs.Codes.{coded, class_code, classes, class_coded, right_code, rights, right_coded, kind_code, kinds, kind_coded}
+use Rattle.std.specs.Prelude.{Ok, Err}
+use Rattle.terms.specs.Codes.{coded, not_listed, class_code, classes, class_coded, right_code, rights, right_coded, kind_code, kinds, kind_coded}
 use Rattle.terms.specs.declared.class.Class.{Class}
 use Rattle.terms.specs.declared.class.Class.TheVariants.{Stock, Fund}
-use Rattle.terms.specs.declared.class.ClassCoded.TheVariants as Class·answer
 use Rattle.terms.specs.declared.right.Right.{Right}
 use Rattle.terms.specs.declared.right.Right.TheVariants.{Call, Put}
-use Rattle.terms.specs.declared.right.RightCoded.TheVariants as Right·answer
 use Rattle.terms.specs.declared.kind.OrderKind.{OrderKind}
 use Rattle.terms.specs.declared.kind.OrderKind.TheVariants.{BuyOpen, SellClose, SellOpen, BuyClose, CoveredOpen, CoveredClose}
-use Rattle.terms.specs.declared.kind.OrderKindCoded.TheVariants as Kind·answer
 
 -- what a list of words makes of a number, whatever is made of a word: a word whose code it is, or none
 pub data Reads {W : Type 0} (code : W → ℕ) (ws : List W) (n : ℕ) : Type 1 where
@@ -30,21 +28,21 @@ reads code (v ∷ ws) n = go (eqb n (code v)) refl (reads code ws n)
     go false t (word w c of) = word w c (λ A made none. rw t (of A made none))
     go false t (unlisted of) = unlisted (λ A made none. rw t (of A made none))
 
-pub class_read : (w : Class) → class_coded (class_code w) ≡ Class·answer.Listed w
+pub class_read : (w : Class) → class_coded (class_code w) ≡ Ok w
 class_read Stock = refl
 class_read Fund = refl
 
-pub class_coded_lem : (n : ℕ) (w : Class) → class_coded n ≡ Class·answer.Listed w → class_code w ≡ n
-class_coded_lem n w e = elim (reads class_code classes n) [ word v c of ↦ cc (of _ Class·answer.Listed Class·answer.Unlisted) | unlisted of ↦ cc (of _ Class·answer.Listed Class·answer.Unlisted) ]
+pub class_coded_lem : (n : ℕ) (w : Class) → class_coded n ≡ Ok w → class_code w ≡ n
+class_coded_lem n w e = elim (reads class_code classes n) [ word v c of ↦ cc (of _ Ok (Err not_listed)) | unlisted of ↦ cc (of _ Ok (Err not_listed)) ]
 
-pub right_read : (w : Right) → right_coded (right_code w) ≡ Right·answer.Listed w
+pub right_read : (w : Right) → right_coded (right_code w) ≡ Ok w
 right_read Call = refl
 right_read Put = refl
 
-pub right_coded_lem : (n : ℕ) (w : Right) → right_coded n ≡ Right·answer.Listed w → right_code w ≡ n
-right_coded_lem n w e = elim (reads right_code rights n) [ word v c of ↦ cc (of _ Right·answer.Listed Right·answer.Unlisted) | unlisted of ↦ cc (of _ Right·answer.Listed Right·answer.Unlisted) ]
+pub right_coded_lem : (n : ℕ) (w : Right) → right_coded n ≡ Ok w → right_code w ≡ n
+right_coded_lem n w e = elim (reads right_code rights n) [ word v c of ↦ cc (of _ Ok (Err not_listed)) | unlisted of ↦ cc (of _ Ok (Err not_listed)) ]
 
-pub kind_read : (w : OrderKind) → kind_coded (kind_code w) ≡ Kind·answer.Listed w
+pub kind_read : (w : OrderKind) → kind_coded (kind_code w) ≡ Ok w
 kind_read BuyOpen = refl
 kind_read SellClose = refl
 kind_read SellOpen = refl
@@ -52,5 +50,5 @@ kind_read BuyClose = refl
 kind_read CoveredOpen = refl
 kind_read CoveredClose = refl
 
-pub kind_coded_lem : (n : ℕ) (w : OrderKind) → kind_coded n ≡ Kind·answer.Listed w → kind_code w ≡ n
-kind_coded_lem n w e = elim (reads kind_code kinds n) [ word v c of ↦ cc (of _ Kind·answer.Listed Kind·answer.Unlisted) | unlisted of ↦ cc (of _ Kind·answer.Listed Kind·answer.Unlisted) ]
+pub kind_coded_lem : (n : ℕ) (w : OrderKind) → kind_coded n ≡ Ok w → kind_code w ≡ n
+kind_coded_lem n w e = elim (reads kind_code kinds n) [ word v c of ↦ cc (of _ Ok (Err not_listed)) | unlisted of ↦ cc (of _ Ok (Err not_listed)) ]

@@ -9,8 +9,10 @@ use native.Mathlib.Nat.{eq-or-lt_of_le, le_of_suc-le-suc, not-suc-le-zero}
 use native.Mathlib.Omega.{arith}
 use borrow.Author.Tests.{lt-ltb}
 use lib.Dec.{ltb}
-use lib.ListN.{length, get_or, length-append, length-map, get_or-append}
+use lib.ListN.{length, get_or, take, length-append, length-map, get_or-append}
 use lib.Seq.{ext_get_or, get_or_at}
+use Rattle.std.specs.List.{list_all}
+use Rattle.std.proofs.lemmas.List.Folds.{list_all_more}
 use Rattle.terms.proofs.Ranges.{both_hold, first_holds, second_holds}
 use Rattle.terms.specs.Listed.{listed, every}
 
@@ -63,6 +65,12 @@ module _ (test : ℕ → Bool) where
 
   pub all_passed : (i n : ℕ) → i ≡ n → every i test ≡ true → every n test ≡ true
   all_passed i n e all = subst (λ (k : ℕ). every k test ≡ true) e all
+
+-- a test of each of a list's first rows is one of every number below as many
+pub all_rows : {A : Type 0} (test : A → Bool) (rows : List A) (none : A) (n : ℕ) → n ≤ length rows → list_all test (take n rows) ≡ every n (λ i. test (get_or rows i none))
+all_rows test rows none zero few = refl
+all_rows test rows none (suc n) few =
+    rw (← add-one) (list_all_more test rows n none (omega arith) ∙ rw (all_rows test rows none n (omega arith)) refl)
 
 -- an array has as many rows as its type says: what is known of the machine's values, one for each row, is so of the rows
 pub counted : (X Y : Type 0) (f : X → Y) (rows : List X) (n : ℕ) → length (map f rows) ≡ n → length rows ≡ n

@@ -1,17 +1,12 @@
 -- The codes that records carry for words (Records; Orders and fills).
-use Rattle.std.specs.Prelude.{ℕ, cond, List, [], ◌∷◌, eqb}
+use Rattle.std.specs.Prelude.{ℕ, cond, List, [], ◌∷◌, eqb, Result, Ok, Err}
+use Rattle.terms.specs.declared.unlisted.Unlisted.{Unlisted}
 use Rattle.terms.specs.declared.class.Class.{Class}
 use Rattle.terms.specs.declared.class.Class.TheVariants.{Stock, Fund}
-use Rattle.terms.specs.declared.class.ClassCoded.{ClassCoded}
-use Rattle.terms.specs.declared.class.ClassCoded.TheVariants as ClassAnswer
 use Rattle.terms.specs.declared.right.Right.{Right}
 use Rattle.terms.specs.declared.right.Right.TheVariants.{Call, Put}
-use Rattle.terms.specs.declared.right.RightCoded.{RightCoded}
-use Rattle.terms.specs.declared.right.RightCoded.TheVariants as RightAnswer
 use Rattle.terms.specs.declared.kind.OrderKind.{OrderKind}
 use Rattle.terms.specs.declared.kind.OrderKind.TheVariants.{BuyOpen, SellClose, SellOpen, BuyClose, CoveredOpen, CoveredClose}
-use Rattle.terms.specs.declared.kind.OrderKindCoded.{OrderKindCoded}
-use Rattle.terms.specs.declared.kind.OrderKindCoded.TheVariants as KindAnswer
 
 -- kind 16: 1 stock or 2 fund (house)
 abbrev pub class_code : Class → ℕ
@@ -37,20 +32,24 @@ abbrev pub coded : {W A : Type 0} → (W → ℕ) → (W → A) → A → List W
 coded code listed unlisted [] n = unlisted
 coded code listed unlisted (w ∷ ws) n = cond (eqb n (code w)) (listed w) (coded code listed unlisted ws n)
 
+-- what is said of a code that no word has (house)
+abbrev pub not_listed : Unlisted
+not_listed = record {}
+
 abbrev pub classes : List Class
 classes = Stock ∷ Fund ∷ []
 
-abbrev pub class_coded : ℕ → ClassCoded
-class_coded = coded class_code ClassAnswer.Listed ClassAnswer.Unlisted classes
+abbrev pub class_coded : ℕ → Result Class Unlisted
+class_coded = coded class_code Ok (Err not_listed) classes
 
 abbrev pub rights : List Right
 rights = Call ∷ Put ∷ []
 
-abbrev pub right_coded : ℕ → RightCoded
-right_coded = coded right_code RightAnswer.Listed RightAnswer.Unlisted rights
+abbrev pub right_coded : ℕ → Result Right Unlisted
+right_coded = coded right_code Ok (Err not_listed) rights
 
 abbrev pub kinds : List OrderKind
 kinds = BuyOpen ∷ SellClose ∷ SellOpen ∷ BuyClose ∷ CoveredOpen ∷ CoveredClose ∷ []
 
-abbrev pub kind_coded : ℕ → OrderKindCoded
-kind_coded = coded kind_code KindAnswer.Listed KindAnswer.Unlisted kinds
+abbrev pub kind_coded : ℕ → Result OrderKind Unlisted
+kind_coded = coded kind_code Ok (Err not_listed) kinds

@@ -2,37 +2,35 @@
 ghost use Rattle.std.specs.Prelude.{◌≡◌};
 ghost use Rattle.terms.specs.Codes.{class_code, class_coded};
 
-// What an underlying is.
-#[derive(Clone, Copy)]
+use crate::unlisted::Unlisted;
+
+// What an underlying is. Its code stands beside each.
+#[derive(Clone, Copy, Default, PartialEq, Eq)]
 pub enum Class {
-    Stock,
-    Fund,
+    #[default]
+    Stock = 1,
+    Fund = 2,
 }
 
-// What a code says. A code that is not listed is an answer too: the reader of records refuses it.
-#[derive(Clone, Copy)]
-pub enum ClassCoded {
-    Listed(Class),
-    Unlisted,
-}
+impl From<Class> for u16 {
+    ghost from_gives = { λ class code. code ≡ class_code class };
 
-impl Class {
-    pub fn code(self) -> u16
-        ensures { result ≡ class_code self }
-    {
-        match self {
-            Class::Stock => 1,
-            Class::Fund => 2,
-        }
+    fn from(class: Class) -> u16 {
+        class as u16
     }
+}
 
-    pub fn coded(code: u16) -> ClassCoded
-        ensures { result ≡ class_coded code }
-    {
+// An impl for this list of words alone: what the four lists share is std's trait.
+impl TryFrom<u16> for Class {
+    type Error = Unlisted;
+
+    ghost try_from_gives = { λ code class. class ≡ class_coded code };
+
+    fn try_from(code: u16) -> Result<Class, Unlisted> {
         match code {
-            1 => ClassCoded::Listed(Class::Stock),
-            2 => ClassCoded::Listed(Class::Fund),
-            _ => ClassCoded::Unlisted,
+            1 => Ok(Class::Stock),
+            2 => Ok(Class::Fund),
+            _ => Err(Unlisted),
         }
     }
 }

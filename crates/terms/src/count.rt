@@ -3,11 +3,11 @@ ghost use Rattle.std.specs.Prelude.{◌≡◌};
 ghost use Rattle.terms.specs.Counts.{units_for};
 
 // A number of contracts.
-#[derive(Clone, Copy)]
+#[derive(Clone, Copy, Default)]
 pub struct Contracts(pub u32);
 
 // A number of units of an underlying.
-#[derive(Clone, Copy)]
+#[derive(Clone, Copy, Default)]
 pub struct Units(pub u64);
 
 impl Contracts {
@@ -20,7 +20,7 @@ impl Contracts {
 }
 
 // What one account holds of one contract. Short is uncovered; covered is for calls only.
-#[derive(Clone, Copy)]
+#[derive(Clone, Copy, Default)]
 pub struct Position {
     pub long: Contracts,
     pub short: Contracts,

@@ -3,70 +3,63 @@ ghost use Rattle.std.specs.Prelude.{◌≡◌};
 ghost use Rattle.terms.specs.Codes.{kind_code, kind_coded};
 ghost use Rattle.terms.specs.Kinds.{moves_of, opens_of, buys_of};
 
-#[derive(Clone, Copy)]
-pub enum OrderKind {
-    BuyOpen,
-    SellClose,
-    SellOpen,
-    BuyClose,
-    CoveredOpen,
-    CoveredClose,
-}
+use crate::unlisted::Unlisted;
 
-// What a code says.
-#[derive(Clone, Copy)]
-pub enum OrderKindCoded {
-    Listed(OrderKind),
-    Unlisted,
+// Its code stands beside each.
+#[derive(Clone, Copy, PartialEq, Eq)]
+pub enum OrderKind {
+    BuyOpen = 1,
+    SellClose = 2,
+    SellOpen = 3,
+    BuyClose = 4,
+    CoveredOpen = 5,
+    CoveredClose = 6,
 }
 
 // The three counts of a position.
-#[derive(Clone, Copy)]
+#[derive(Clone, Copy, PartialEq, Eq)]
 pub enum Side {
     Long,
     Short,
     Covered,
 }
 
-impl OrderKind {
-    pub fn code(self) -> u16
-        ensures { result ≡ kind_code self }
-    {
-        match self {
-            OrderKind::BuyOpen => 1,
-            OrderKind::SellClose => 2,
-            OrderKind::SellOpen => 3,
-            OrderKind::BuyClose => 4,
-            OrderKind::CoveredOpen => 5,
-            OrderKind::CoveredClose => 6,
-        }
-    }
+impl From<OrderKind> for u16 {
+    ghost from_gives = { λ kind code. code ≡ kind_code kind };
 
-    pub fn coded(code: u16) -> OrderKindCoded
-        ensures { result ≡ kind_coded code }
-    {
+    fn from(kind: OrderKind) -> u16 {
+        kind as u16
+    }
+}
+
+// An impl for this list of words alone: what the four lists share is std's trait.
+impl TryFrom<u16> for OrderKind {
+    type Error = Unlisted;
+
+    ghost try_from_gives = { λ code kind. kind ≡ kind_coded code };
+
+    fn try_from(code: u16) -> Result<OrderKind, Unlisted> {
         match code {
-            1 => OrderKindCoded::Listed(OrderKind::BuyOpen),
-            2 => OrderKindCoded::Listed(OrderKind::SellClose),
-            3 => OrderKindCoded::Listed(OrderKind::SellOpen),
-            4 => OrderKindCoded::Listed(OrderKind::BuyClose),
-            5 => OrderKindCoded::Listed(OrderKind::CoveredOpen),
-            6 => OrderKindCoded::Listed(OrderKind::CoveredClose),
-            _ => OrderKindCoded::Unlisted,
+            1 => Ok(OrderKind::BuyOpen),
+            2 => Ok(OrderKind::SellClose),
+            3 => Ok(OrderKind::SellOpen),
+            4 => Ok(OrderKind::BuyClose),
+            5 => Ok(OrderKind::CoveredOpen),
+            6 => Ok(OrderKind::CoveredClose),
+            _ => Err(Unlisted),
         }
     }
+}
 
+impl OrderKind {
     // Which count of the position a fill of such an order moves.
     pub fn moves(self) -> Side
         ensures { result ≡ moves_of self }
     {
         match self {
-            OrderKind::BuyOpen => Side::Long,
-            OrderKind::SellClose => Side::Long,
-            OrderKind::SellOpen => Side::Short,
-            OrderKind::BuyClose => Side::Short,
-            OrderKind::CoveredOpen => Side::Covered,
-            OrderKind::CoveredClose => Side::Covered,
+            OrderKind::BuyOpen | OrderKind::SellClose => Side::Long,
+            OrderKind::SellOpen | OrderKind::BuyClose => Side::Short,
+            OrderKind::CoveredOpen | OrderKind::CoveredClose => Side::Covered,
         }
     }
 
@@ -74,27 +67,19 @@ impl OrderKind {
     pub fn opens(self) -> bool
         ensures { result ≡ opens_of self }
     {
-        match self {
-            OrderKind::BuyOpen => true,
-            OrderKind::SellClose => false,
-            OrderKind::SellOpen => true,
-            OrderKind::BuyClose => false,
-            OrderKind::CoveredOpen => true,
-            OrderKind::CoveredClose => false,
-        }
+        matches!(
+            self,
+            OrderKind::BuyOpen | OrderKind::SellOpen | OrderKind::CoveredOpen
+        )
     }
 
     // A buy pays the premium, a sell is paid it.
     pub fn buys(self) -> bool
         ensures { result ≡ buys_of self }
     {
-        match self {
-            OrderKind::BuyOpen => true,
-            OrderKind::SellClose => false,
-            OrderKind::SellOpen => false,
-            OrderKind::BuyClose => true,
-            OrderKind::CoveredOpen => false,
-            OrderKind::CoveredClose => true,
-        }
+        matches!(
+            self,
+            OrderKind::BuyOpen | OrderKind::BuyClose | OrderKind::CoveredClose
+        )
     }
 }

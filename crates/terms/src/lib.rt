@@ -7,12 +7,14 @@ mod kind;
 mod measure;
 mod refusal;
 mod right;
+mod unlisted;
 mod verdict;
 
-pub use class::{Class, ClassCoded};
+pub use class::Class;
 pub use count::{Contracts, Position, Units};
-pub use kind::{OrderKind, OrderKindCoded, Side};
+pub use kind::{OrderKind, Side};
 pub use measure::{ACCOUNTS, CONTRACTS, Measure, PLACES, Range, UNDERLYINGS, unit_allowed};
 pub use refusal::Refusal;
-pub use right::{Right, RightCoded};
-pub use verdict::Verdict;
+pub use right::Right;
+pub use unlisted::Unlisted;
+pub use verdict::{Verdict, number};

@@ -65,7 +65,7 @@ impl Measure {
         ensures { result ≡ (x ∈ range_of self) }
     {
         let range = self.range();
-        (range.0 <= x) & (x <= range.1)
+        (range.0..=range.1).contains(&x)
     }
 }
 

@@ -3,60 +3,37 @@ ghost use Rattle.std.specs.Prelude.{◌≡◌};
 ghost use Rattle.terms.specs.Refusals.{number_of};
 
 // Why an entry or a record is refused.
-#[derive(Clone, Copy)]
+#[derive(Clone, Copy, PartialEq, Eq)]
 pub enum Refusal {
-    CutShort,
-    UnknownKind,
-    Misshapen,
-    OutOfRange,
-    OutOfPlace,
-    StaleNumber,
-    NoSuchOrder,
-    OrdersFull,
-    PositionTooSmall,
-    RightsPassed,
-    TotalPassed,
-    DailyPassed,
-    SpareTooFew,
-    AvailablePassed,
-    CeilingPassed,
-    FillBarred,
-    BufferTooShort,
+    CutShort = 1,
+    UnknownKind = 2,
+    Misshapen = 3,
+    OutOfRange = 4,
+    OutOfPlace = 5,
+    StaleNumber = 6,
+    NoSuchOrder = 7,
+    OrdersFull = 8,
+    PositionTooSmall = 9,
+    RightsPassed = 10,
+    TotalPassed = 11,
+    DailyPassed = 12,
+    SpareTooFew = 13,
+    AvailablePassed = 14,
+    CeilingPassed = 15,
+    FillBarred = 16,
+    BufferTooShort = 17,
     // Unused: no fill can bring cash below zero. The number is kept, so that it never means anything else.
-    CashBelowZero,
-    NothingWaiting,
-    AlreadyWaiting,
-    LongTooSmall,
-    MeansTooSmall,
+    CashBelowZero = 18,
+    NothingWaiting = 19,
+    AlreadyWaiting = 20,
+    LongTooSmall = 22,
+    MeansTooSmall = 23,
 }
 
 impl Refusal {
     pub fn number(self) -> u8
         ensures { result ≡ number_of self }
     {
-        match self {
-            Refusal::CutShort => 1,
-            Refusal::UnknownKind => 2,
-            Refusal::Misshapen => 3,
-            Refusal::OutOfRange => 4,
-            Refusal::OutOfPlace => 5,
-            Refusal::StaleNumber => 6,
-            Refusal::NoSuchOrder => 7,
-            Refusal::OrdersFull => 8,
-            Refusal::PositionTooSmall => 9,
-            Refusal::RightsPassed => 10,
-            Refusal::TotalPassed => 11,
-            Refusal::DailyPassed => 12,
-            Refusal::SpareTooFew => 13,
-            Refusal::AvailablePassed => 14,
-            Refusal::CeilingPassed => 15,
-            Refusal::FillBarred => 16,
-            Refusal::BufferTooShort => 17,
-            Refusal::CashBelowZero => 18,
-            Refusal::NothingWaiting => 19,
-            Refusal::AlreadyWaiting => 20,
-            Refusal::LongTooSmall => 22,
-            Refusal::MeansTooSmall => 23,
-        }
+        self as u8
     }
 }

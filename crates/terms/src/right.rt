@@ -2,37 +2,35 @@
 ghost use Rattle.std.specs.Prelude.{◌≡◌};
 ghost use Rattle.terms.specs.Codes.{right_code, right_coded};
 
-// What the contract gives its holder: to buy the underlying, or to sell it.
-#[derive(Clone, Copy)]
+use crate::unlisted::Unlisted;
+
+// What the contract gives its holder: to buy the underlying, or to sell it. Its code stands beside each.
+#[derive(Clone, Copy, Default, PartialEq, Eq)]
 pub enum Right {
-    Call,
-    Put,
+    #[default]
+    Call = 1,
+    Put = 2,
 }
 
-// What a code says.
-#[derive(Clone, Copy)]
-pub enum RightCoded {
-    Listed(Right),
-    Unlisted,
-}
+impl From<Right> for u16 {
+    ghost from_gives = { λ right code. code ≡ right_code right };
 
-impl Right {
-    pub fn code(self) -> u16
-        ensures { result ≡ right_code self }
-    {
-        match self {
-            Right::Call => 1,
-            Right::Put => 2,
-        }
+    fn from(right: Right) -> u16 {
+        right as u16
     }
+}
 
-    pub fn coded(code: u16) -> RightCoded
-        ensures { result ≡ right_coded code }
-    {
+// An impl for this list of words alone: what the four lists share is std's trait.
+impl TryFrom<u16> for Right {
+    type Error = Unlisted;
+
+    ghost try_from_gives = { λ code right. right ≡ right_coded code };
+
+    fn try_from(code: u16) -> Result<Right, Unlisted> {
         match code {
-            1 => RightCoded::Listed(Right::Call),
-            2 => RightCoded::Listed(Right::Put),
-            _ => RightCoded::Unlisted,
+            1 => Ok(Right::Call),
+            2 => Ok(Right::Put),
+            _ => Err(Unlisted),
         }
     }
 }

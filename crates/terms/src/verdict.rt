@@ -4,20 +4,14 @@ ghost use Rattle.terms.specs.Verdicts.{number_in};
 
 use crate::refusal::Refusal;
 
-#[derive(Clone, Copy)]
-pub enum Verdict {
-    Accepted,
-    Refused(Refusal),
-}
+pub type Verdict = Result<(), Refusal>;
 
-impl Verdict {
-    // As the paper counts: 0, or the refusal's number.
-    pub fn number(self) -> u8
-        ensures { result ≡ number_in self }
-    {
-        match self {
-            Verdict::Accepted => 0,
-            Verdict::Refused(why) => why.number(),
-        }
+// As the paper counts: 0, or the refusal's number.
+pub fn number<T>(answer: &Result<T, Refusal>) -> u8
+    ensures { result ≡ number_in answer.now }
+{
+    match answer {
+        Ok(_) => 0,
+        Err(why) => why.number(),
     }
 }

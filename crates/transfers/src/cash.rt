@@ -4,21 +4,21 @@ ghost use Rattle.account.specs.Changes.{decided};
 ghost use Rattle.account.specs.Sound.{SoundSheet};
 ghost use Rattle.account.specs.Transfers.{deposit_change, deposit_verdict};
 
-use account::{Change, Decision, Sheet, Waiting};
+use account::{Change, Decision, Sheet};
 use postings::{Posting, posted};
 use terms::{Measure, Refusal};
 
 #[tactic(auto, unfolding(account::specs::Transfers::deposit_verdict, account::specs::Transfers::deposit_change))]
-pub fn deposit(sheet: Sheet, last: u32, amount: u64) -> Decision
+pub fn deposit(sheet: Sheet, last: u32, amount: u64) -> Result<Decision, Refusal>
     requires { SoundSheet sheet }
     ensures { result ≡ decided (deposit_verdict sheet amount) (deposit_change sheet last amount) }
 {
     if !Measure::Transfer.allows(amount) {
-        return Decision::Refused(Refusal::OutOfRange);
+        return Err(Refusal::OutOfRange);
     }
     if !Measure::Money.allows(sheet.cash + sheet.premium + amount) {
-        return Decision::Refused(Refusal::CeilingPassed);
+        return Err(Refusal::CeilingPassed);
     }
     let after = posted(sheet, Posting::CashIn(amount));
-    Decision::Changes(Change::of_sheet(after, Waiting::Stays, last))
+    Ok(Decision::Changes(Change::of_sheet(after, None, last)))
 }

@@ -7,39 +7,37 @@ ghost use Rattle.account.specs.Seen.{SeenOf, Wherever};
 ghost use Rattle.account.specs.Totals.{spare_units};
 ghost use Rattle.transfers.specs.Locked.{allowed_among, locked_seen};
 
-use account::{Change, Decision, Holding, Resting, Seen, Waiting};
+use account::{Change, Decision, Holding, Seen};
 use entries::Entry;
 use terms::{Measure, Refusal, Units};
 
-pub fn lock(seen: Seen, underlying: u16, units: u32) -> Decision
+pub fn lock(seen: Seen, underlying: u16, units: u32) -> Result<Decision, Refusal>
     requires { SeenOf (Entry.Lock underlying units) seen }
     ensures { Wherever (Entry.Lock underlying units) seen (λ t a. result ≡ decided (lock_verdict t (holding a underlying) underlying units) (lock_change a underlying units)) }
 {
     if !allowed(seen.m, underlying, units) {
-        return Decision::Refused(Refusal::OutOfRange);
+        return Err(Refusal::OutOfRange);
     }
-    let holding = seen.holding;
-    let locked = holding.locked.0 + units as u64;
+    let locked = seen.holding.locked.0 + units as u64;
     if !Measure::LockedUnits.allows(locked) {
-        return Decision::Refused(Refusal::CeilingPassed);
+        return Err(Refusal::CeilingPassed);
     }
-    Decision::Changes(locking(seen, underlying, locked))
+    Ok(Decision::Changes(locking(seen, underlying, locked)))
 }
 
-pub fn unlock(seen: Seen, underlying: u16, units: u32) -> Decision
+pub fn unlock(seen: Seen, underlying: u16, units: u32) -> Result<Decision, Refusal>
     requires { SeenOf (Entry.Unlock underlying units) seen }
     ensures { Wherever (Entry.Unlock underlying units) seen (λ t a. result ≡ decided (unlock_verdict t (spare_units t a underlying) underlying units) (unlock_change a underlying units)) }
 {
     if !allowed(seen.m, underlying, units) {
-        return Decision::Refused(Refusal::OutOfRange);
+        return Err(Refusal::OutOfRange);
     }
     let holding = seen.holding;
-    let running = seen.running;
-    if units as u64 > holding.locked.0 - running.taken.0 {
-        return Decision::Refused(Refusal::SpareTooFew);
+    if units as u64 > holding.locked.0 - seen.running.taken.0 {
+        return Err(Refusal::SpareTooFew);
     }
     let locked = holding.locked.0 - units as u64;
-    Decision::Changes(locking(seen, underlying, locked))
+    Ok(Decision::Changes(locking(seen, underlying, locked)))
 }
 
 fn allowed(m: usize, underlying: u16, units: u32) -> bool
@@ -52,20 +50,12 @@ fn allowed(m: usize, underlying: u16, units: u32) -> bool
 fn locking(seen: Seen, underlying: u16, locked: u64) -> Change
     ensures { result ≡ locked_seen seen underlying locked }
 {
-    let before = seen.holding;
-    let bought = before.bought;
-    let sheet = seen.sheet;
-    Change::without_position(
-        sheet,
-        Waiting::Stays,
-        terms::PLACES,
-        Resting::free(),
-        0,
-        underlying as usize,
-        Holding {
+    Change {
+        underlying: underlying as usize,
+        holding: Holding {
             locked: Units(locked),
-            bought,
+            ..seen.holding
         },
-        seen.last,
-    )
+        ..Change::of_sheet(seen.sheet, None, seen.last)
+    }
 }

@@ -1,14 +1,12 @@
 -- Writing: "a day end with n or m out of range 3, then 17; on refusal no byte is written, else only the record's bytes" (Refusal numbers).
-use Rattle.std.specs.Prelude.{ℕ, Bool, cond, not, ◌&&◌, List, [], ◌∷◌, ◌++◌, ltb, drop}
-use Rattle.terms.specs.Refusals.{number_of}
+use Rattle.std.specs.Prelude.{ℕ, Bool, cond, not, ◌&&◌, List, [], ◌∷◌, ◌++◌, ltb, drop, Result, Ok, Err}
+use Rattle.terms.specs.declared.refusal.Refusal.{Refusal}
 use Rattle.terms.specs.declared.refusal.Refusal.TheVariants.{Misshapen, BufferTooShort}
 use Rattle.entries.specs.Entries.{kind_of, fields_in, figures_in, ◌!◌}
 use Rattle.entries.specs.Numbers.{packed}
 use Rattle.entries.specs.Table.{code_of, fields_of, is_day_end, figures_of, length_of, counts_allowed}
 use Rattle.entries.specs.declared.entry.Entry.{Entry}
 use Rattle.entries.specs.declared.entry.Figures.{Figures}
-use Rattle.writing.specs.declared.Written.{Written}
-use Rattle.writing.specs.declared.Written.TheVariants.{Bytes, Refused}
 
 -- n and m are a day end's two fields; no other entry has figures (house)
 abbrev pub n_of : Entry → ℕ
@@ -33,19 +31,14 @@ record_of entry f = head_of entry ++ cond (is_day_end (kind_of entry)) (packed (
 abbrev pub counts_barred : Entry → Bool
 counts_barred entry = is_day_end (kind_of entry) && not (counts_allowed (n_of entry) (m_of entry))
 
--- an answer in the paper's numbers: 0, or the refusal's number (house)
-abbrev pub number_in : Written → ℕ
-number_in (Bytes n) = 0
-number_in (Refused why) = number_of why
-
 -- the answer, by the size of the lent buffer: how many bytes were written, or the refusal (house)
-unfoldable pub written_for : Entry → ℕ → Written
+unfoldable pub written_for : Entry → ℕ → Result ℕ Refusal
 written_for entry size =
-    cond (counts_barred entry) (Refused Misshapen)
-    (cond (ltb size (length_for entry)) (Refused BufferTooShort)
-    (Bytes (length_for entry)))
+    cond (counts_barred entry) (Err Misshapen)
+    (cond (ltb size (length_for entry)) (Err BufferTooShort)
+    (Ok (length_for entry)))
 
 -- the buffer afterwards: the record at its start and the rest as it was, or all as it was (house)
-abbrev pub buffer_after : Written → List ℕ → List ℕ → List ℕ
-buffer_after (Bytes n) rec buffer = rec ++ drop n buffer
-buffer_after (Refused why) rec buffer = buffer
+abbrev pub buffer_after : Result ℕ Refusal → List ℕ → List ℕ → List ℕ
+buffer_after (Ok n) rec buffer = rec ++ drop n buffer
+buffer_after (Err why) rec buffer = buffer

@@ -1,31 +1,54 @@
-// Little-endian numbers of 2, 4 and 8 bytes, put into lent bytes.
-ghost use Rattle.std.specs.Prelude.{◌≡◌, ◌+◌, ◌*◌, ◌≤◌, length, replicate};
+// Little-endian numbers, put into lent bytes.
+ghost use Rattle.std.specs.Prelude.{◌≡◌, ℕ, ◌+◌, ◌*◌, ◌≤◌, length, replicate};
 ghost use Rattle.std.proofs.lemmas.List.Edits.{sets};
 ghost use Rattle.entries.specs.Numbers.{bytes, packed};
 
-#[tactic(auto, unfolding(entries::specs::Numbers::bytes))]
-pub(crate) fn put2(buffer: &mut [u8], at: usize, x: u16)
-    requires { at + 2 ≤ length buffer.old }
-    ensures { buffer.new ≡ sets buffer.old at (bytes 2 x) }
-{
-    buffer[at] = (x % 256) as u8;
-    buffer[at + 1] = (x / 256 % 256) as u8;
+// A number as wide as its type. `reading` has a trait of its own: one for both would be public, and a public function asks nothing.
+pub(crate) trait Number {
+    ghost width: { ℕ };
+
+    ghost value: { Self → ℕ };
+
+    fn put(self, buffer: &mut [u8], at: usize)
+        requires { at + width ≤ length buffer.old }
+        ensures { buffer.new ≡ sets buffer.old at (bytes width (value self)) };
 }
 
-pub(crate) fn put4(buffer: &mut [u8], at: usize, x: u32)
-    requires { at + 4 ≤ length buffer.old }
-    ensures { buffer.new ≡ sets buffer.old at (bytes 4 x) }
-{
-    put2(buffer, at, (x % 65_536) as u16);
-    put2(buffer, at + 2, (x / 65_536 % 65_536) as u16);
+impl Number for u16 {
+    ghost width = { 2 };
+
+    ghost value = { λ x. x };
+
+    fn put(self, buffer: &mut [u8], at: usize) {
+        put_bytes(buffer, at, u16::to_le_bytes(self));
+    }
 }
 
-pub(crate) fn put8(buffer: &mut [u8], at: usize, x: u64)
-    requires { at + 8 ≤ length buffer.old }
-    ensures { buffer.new ≡ sets buffer.old at (bytes 8 x) }
+impl Number for u32 {
+    ghost width = { 4 };
+
+    ghost value = { λ x. x };
+
+    fn put(self, buffer: &mut [u8], at: usize) {
+        put_bytes(buffer, at, u32::to_le_bytes(self));
+    }
+}
+
+impl Number for u64 {
+    ghost width = { 8 };
+
+    ghost value = { λ x. x };
+
+    fn put(self, buffer: &mut [u8], at: usize) {
+        put_bytes(buffer, at, u64::to_le_bytes(self));
+    }
+}
+
+fn put_bytes<const N: usize>(buffer: &mut [u8], at: usize, bytes: [u8; N])
+    requires { at + N ≤ length buffer.old }
+    ensures { buffer.new ≡ sets buffer.old at bytes.entry }
 {
-    put4(buffer, at, (x % 4_294_967_296) as u32);
-    put4(buffer, at + 4, (x / 4_294_967_296 % 4_294_967_296) as u32);
+    buffer[at..at + N].copy_from_slice(&bytes);
 }
 
 // Numbers of 4 bytes, one after the other.
@@ -34,9 +57,7 @@ pub(crate) fn puts4(buffer: &mut [u8], at: usize, xs: &[u32])
     requires { at + 4 * length xs.now ≤ length buffer.old }
     ensures { buffer.new ≡ sets buffer.old at (packed (replicate (length xs.now) 4) xs.now) }
 {
-    let mut i = 0;
-    while i < xs.len() {
-        put4(buffer, at + 4 * i, xs[i]);
-        i += 1;
+    for (i, x) in xs.iter().enumerate() {
+        x.put(buffer, at + 4 * i);
     }
 }

@@ -12,7 +12,7 @@ use native::entries::{Entry, Fill, Order};
 use native::gathering::{gather, see};
 use native::money::{available, hold_one, premium_one};
 use native::reading::Answer;
-use native::resting::{find, kind_of, Found};
+use native::resting::{find, kind_of};
 use native::set_up::{Book, Stage};
 use native::terms::Measure;
 
@@ -22,7 +22,7 @@ pub fn figures(book: &Book, piece: &Piece, refusal: u8) -> String {
         Answer::Found { entry, .. } => entry,
         Answer::Refused { .. } => return unread::figures(&piece.bytes, refusal),
     };
-    let row = row(entry.kind().code()).expect("every kind has its row");
+    let row = row(u16::from(entry.kind())).expect("every kind has its row");
     match refusal {
         4 => outside::figures(book, row, &values(row, &piece.bytes), entry),
         5 => place(book, row),
@@ -50,16 +50,13 @@ fn place(book: &Book, row: &Row) -> String {
 }
 
 fn judged(book: &Book, entry: Entry, refusal: u8) -> String {
-    let seen = see(book.tables, book.account, entry);
+    let seen = see(&book.tables, &book.account, entry);
     match entry {
         Entry::Order(order) => ordered(&seen, order, refusal),
         Entry::Fill(Fill { number, .. }) | Entry::Cancel { number } if refusal == 7 => {
             format!("number {number}, {}", resting(book))
         }
-        Entry::Fill(fill) => match find(seen) {
-            Found::At(named) => filled(&named, fill, refusal),
-            Found::Nothing => String::new(),
-        },
+        Entry::Fill(fill) => find(seen).map_or(String::new(), |named| filled(&named, fill, refusal)),
         Entry::Deposit(amount) => ceiling(seen.sheet, "deposit", amount, None),
         Entry::Withdraw(amount) if refusal == 20 => {
             let waiting = yuan(seen.waiting);

@@ -79,7 +79,7 @@ pub fn show(asked: &Asked, output: &mut Output) -> Outcome {
 
 /// The line of a record that can be read, with at most so many figures of a list.
 pub fn line(piece: &Piece, entry: Entry, most: usize) -> String {
-    let row = row(entry.kind().code()).expect("every kind has its row");
+    let row = row(u16::from(entry.kind())).expect("every kind has its row");
     said(row, &values(row, &piece.bytes), most)
 }
 

@@ -3,9 +3,9 @@
 mod common;
 
 use common::ravundesk;
-use native::entries::{Contract, Entry, Figures, Fill, Kind, KindCoded, Order, Underlying};
-use native::terms::{Class, ClassCoded, OrderKind, OrderKindCoded, Refusal, Right, RightCoded};
-use native::writing::{write, Written};
+use native::entries::{Contract, Entry, Figures, Fill, Kind, Order, Underlying};
+use native::terms::{Class, OrderKind, Refusal, Right};
+use native::writing::write;
 use ravundesk::records::table::{Form, Row, Times, ROWS};
 use ravundesk::refusals::REFUSALS;
 use trials::chance::Chance;
@@ -14,24 +14,24 @@ use trials::chance::Chance;
 fn a_row_for_each_kind_and_no_other() {
     for code in 0..=u16::MAX {
         let rows: Vec<&Row> = ROWS.iter().filter(|row| row.kind == code).collect();
-        match Kind::coded(code) {
-            KindCoded::Listed(kind) => {
+        match Kind::try_from(code) {
+            Ok(kind) => {
                 assert_eq!(rows.len(), 1, "kind {code}");
                 let once = rows[0].fields.iter();
                 let once = once.filter(|field| field.times == Times::Once);
                 let length = 4 + once.map(|field| field.width).sum::<usize>();
                 assert_eq!(length, kind.length().into(), "kind {code}");
             }
-            KindCoded::Unlisted => assert!(rows.is_empty(), "kind {code}"),
+            Err(_) => assert!(rows.is_empty(), "kind {code}"),
         }
     }
 }
 
 fn listed(name: &str, code: u16) -> bool {
     match name {
-        "class" => matches!(Class::coded(code), ClassCoded::Listed(_)),
-        "right" => matches!(Right::coded(code), RightCoded::Listed(_)),
-        "kind" => matches!(OrderKind::coded(code), OrderKindCoded::Listed(_)),
+        "class" => Class::try_from(code).is_ok(),
+        "right" => Right::try_from(code).is_ok(),
+        "kind" => OrderKind::try_from(code).is_ok(),
         other => panic!("{other} has no codes"),
     }
 }
@@ -250,8 +250,8 @@ fn contract_line(row: Contract) -> String {
 fn proved(entry: Entry, figures: Figures) -> Vec<u8> {
     let mut buffer = [0; 296];
     match write(entry, figures, &mut buffer) {
-        Written::Bytes(length) => buffer[..length].to_vec(),
-        Written::Refused(why) => panic!("refused with {}", why.number()),
+        Ok(length) => buffer[..length].to_vec(),
+        Err(why) => panic!("refused with {}", why.number()),
     }
 }
 

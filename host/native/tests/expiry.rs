@@ -2,7 +2,7 @@
 
 use native::assignment::assign;
 use native::exercise::exercise;
-use native::terms::{Contracts, Position, Right};
+use native::terms::{number, Contracts, Position, Right};
 use plain::expiry::{self, Obligation, Request};
 use plain::expiry_lines::Question;
 use trials::expiring::{batch, Meant};
@@ -50,14 +50,14 @@ fn judged(request: &Request) -> u8 {
         count,
         request.offered,
     );
-    verdict.number()
+    number(&verdict)
 }
 
 /// The number, and the two lists afterwards.
 fn lent(exercised: u32, short: &[u32], covered: &[u32], places: [usize; 2]) -> (u8, [Vec<u32>; 2]) {
     let [mut cover, mut naked] = places.map(|places| vec![MARK; places]);
     let verdict = assign(Contracts(exercised), short, covered, &mut cover, &mut naked);
-    (verdict.number(), [cover, naked])
+    (number(&verdict), [cover, naked])
 }
 
 /// A list of so many places, with the contracts in the first ones.

@@ -1,82 +1,77 @@
 -- A turn answers and writes the page that comes next.
-use Rattle.std.proofs.Common.{◌≡◌, ℕ, suc, ◌+◌, ◌≤◌, ◌<◌, ℤ, List, ◌++◌, false, true, sym, ap, subst, ◌∙◌, length, take, drop, arith}
-use Rattle.std.proofs.lemmas.List.{take_at}
+use Rattle.std.proofs.Common.{◌≡◌, ℕ, suc, ◌+◌, ◌≤◌, ◌<◌, false, true, sym, ap, subst, ◌∙◌, List, length, take, drop, arith}
 use mathlib.Core.Logic.{⊎_elim}
-use Rattle.terms.specs.declared.verdict.Verdict.TheVariants.{Accepted}
+use Rattle.terms.specs.Verdicts.{accept}
 use Rattle.set_up.specs.Sound.{SoundBook}
-use Rattle.set_up.specs.declared.stages.Book.{Book}
 use Rattle.set_up.proofs.EnteredSound.{new_sound}
-use Rattle.desk.specs.Runs.{numbers_left, places_in, run_from, sums_left, told}
+use Rattle.desk.specs.Runs.{Ran, places_in, run_from}
 use Rattle.desk.specs.declared.Run.{Run}
 use Rattle.desk.proofs.Onward.{run_sound}
 use Rattle.desk.proofs.Places.{went}
 use Rattle.desk.proofs.Started.{Leaves}
-use Rattle.book.specs.Lines.{lines_from, printed_for}
-use Rattle.book.proofs.Answers.{lines_left, lines_of}
-use Rattle.book.proofs.Paging.{Printed, all_written, behind, from_the_first, more_behind, none_behind, none_left, page_next, page_passed, page_from, to_come}
+use Rattle.book.specs.Lines.{printed_for}
+use Rattle.book.proofs.Answers.{lines_left}
+use Rattle.book.proofs.Paging.{Printed, all_written, behind, from_the_first, more_behind, none_behind, none_left, page_from, page_next, page_passed, to_come}
 use Rattle.book.proofs.print.Goals as goal
+use Rattle.book.proofs.print.Goals.{After-lines}
 
--- a run with a page's places was made from a place on, and these are the numbers and the sums that it left
-record PageRun (s : List ℕ) (place : ℕ) (book : Book) (run : Run) (numbers : List ℕ) (sums : List ℤ) : Type 0 where
-  is : run ≡ told Accepted (run_from 128 s place book)
-  shown : (number : ℕ) → lines_from number (take run.answered numbers) (take run.answered sums) ≡ lines_of number (run_from 128 s place book).answers
+-- a turn's run with a page's places from where the book in hand stands, and the page of its answers
+module _ (c : After-lines) where
+  abbrev s : List ℕ
+  s = c.args.bytes.now
 
-page_run : (s : List ℕ) (place : ℕ) (book : Book) (run : Run) (numbers₀ numbers : List ℕ) (sums₀ sums : List ℤ)
-    → length numbers₀ ≡ 128
-    → length sums₀ ≡ 128
-    → run ≡ told Accepted (run_from (places_in numbers₀ sums₀) s place book)
-    → numbers ≡ numbers_left (run_from (places_in numbers₀ sums₀) s place book) numbers₀
-    → sums ≡ sums_left (run_from (places_in numbers₀ sums₀) s place book) sums₀
-    → PageRun s place book run numbers sums
-page_run s place book run numbers₀ numbers sums₀ sums n m is numbered summed =
-    let places : places_in numbers₀ sums₀ ≡ 128 = omega arith in
-    let left = subst (λ (k : ℕ). Leaves Accepted (run_from k s place book) run numbers₀ numbers sums₀ sums) places (is, (numbered, summed)) in
-    record { is = left.0; shown = lines_left (run_from 128 s place book) run numbers₀ numbers sums₀ sums left }
+  abbrev ran : Ran
+  ran = run_from 128 s c.loop-place.place c.loop-place.book
 
-module _ {s : List ℕ} {place : ℕ} {book : Book} {run : Run} {numbers : List ℕ} {sums : List ℤ} (ran : PageRun s place book run numbers sums) where
-  counted : run.answered ≡ length (run_from 128 s place book).answers
-  counted = ap (λ (r : Run). r.answered) ran.is
+  abbrev run : Run
+  run = c.run_on-run.result
 
-  stops : run.stopped ≡ (run_from 128 s place book).stopped
-  stops = ap (λ (r : Run). r.stopped) ran.is
+  abbrev page : List ℕ
+  page = c.lines.new.page.bytes
+
+  left : Leaves accept ran run c.loop-place.numbers c.run_on-run.new.numbers c.loop-place.sums c.run_on-run.new.sums
+  left =
+      let places : places_in c.loop-place.numbers c.loop-place.sums ≡ 128 = omega arith in
+      subst (λ (k : ℕ). Leaves accept (run_from k s c.loop-place.place c.loop-place.book) run c.loop-place.numbers c.run_on-run.new.numbers c.loop-place.sums c.run_on-run.new.sums) places
+      (c.run_on-run.ensures.run, (c.run_on-run.ensures.numbers, c.run_on-run.ensures.sums))
+
+  stops : run.stopped ≡ ran.stopped
+  stops = ap (λ (r : Run). r.stopped) left.0
 
   -- a run that did not stop has gone on
-  further : run.stopped ≡ false → place < length s → (place + run.answered ≤ run.place) × (place < run.place)
-  further on inside =
-      let so = went 128 s place book (sym stops ∙ on) in
-      let at : run.place ≡ (run_from 128 s place book).place = ap (λ (r : Run). r.place) ran.is in
-      (omega (arith, counted, so.moved), ⊎_elim (λ none. omega (arith, none)) (λ all. omega (arith, all, so.moved)) so.used)
+  further : run.stopped ≡ false → (c.loop-place.place + run.answered ≤ run.place) × (c.loop-place.place < run.place)
+  further on =
+      let so = went 128 s c.loop-place.place c.loop-place.book (sym stops ∙ on) in
+      let counted = ap (λ (r : Run). r.answered) left.0 in
+      let at = ap (λ (r : Run). r.place) left.0 in
+      let inside = c.loop-place-test.true in
+      (omega (arith, counted, at, so.moved), ⊎_elim (λ none. omega (arith, none)) (λ all. omega (arith, all, at, so.moved)) so.used)
 
-  stays_sound : SoundBook book → SoundBook run.book
-  stays_sound sound = subst (λ (r : Run). SoundBook r.book) (sym ran.is) (run_sound 128 s place book sound)
+  stays_sound : SoundBook run.book
+  stays_sound = subst (λ (r : Run). SoundBook r.book) (sym left.0) (run_sound 128 s c.loop-place.place c.loop-place.book c.loop-place.invariant.sound)
 
-  -- the lines of its answers, put at the start of the page, are the page that comes next
-  module _
-      (first written k : ℕ)
-      (page₀ page : List ℕ)
-      (so : Printed s written (to_come s first place book))
-      (long : k ≡ length (lines_from (suc first) (take run.answered numbers) (take run.answered sums)))
-      (contents : page ≡ lines_from (suc first) (take run.answered numbers) (take run.answered sums) ++ drop k page₀)
-    where
-      on_page : take k page ≡ page_from s first place book
-      on_page = ap (take k) contents ∙ take_at _ _ k (sym long) ∙ ran.shown (suc first)
+  -- the lines of its answers are the page that comes next
+  page_is : page ≡ page_from s c.loop-place.first c.loop-place.place c.loop-place.book
+  page_is = c.lines.ensures ∙ lines_left ran run _ _ _ _ left (suc c.loop-place.first)
 
-      page_is_next : take k page ≡ take (length (take k page)) (drop written (printed_for s))
-      page_is_next = on_page ∙ sym (ap (λ (j : ℕ). take j (drop written (printed_for s))) (ap length on_page) ∙ page_next s first written place book so)
+  next : page ≡ take (length page) (drop c.loop-place.written (printed_for s))
+  next =
+      subst (λ (l : List ℕ). l ≡ take (length l) (drop c.loop-place.written (printed_for s))) (sym page_is)
+      (sym (page_next s c.loop-place.first c.loop-place.written c.loop-place.place c.loop-place.book c.loop-place.invariant.printed))
 
-      passed : Printed s (written + k) (behind s first (run_from 128 s place book))
-      passed =
-          subst (λ (j : ℕ). Printed s (written + j) (behind s first (run_from 128 s place book))) (sym (long ∙ ap length (ran.shown (suc first))))
-          (page_passed s first written place book so)
+  passed : Printed s (c.loop-place.written + length page) (behind s c.loop-place.first ran)
+  passed =
+      subst (λ (l : List ℕ). Printed s (c.loop-place.written + length l) (behind s c.loop-place.first ran)) (sym page_is)
+      (page_passed s c.loop-place.first c.loop-place.written c.loop-place.place c.loop-place.book c.loop-place.invariant.printed)
 
-      ends : run.stopped ≡ true → written + k ≡ length (printed_for s)
-      ends stopped = all_written s (written + k) _ passed (none_behind s first (run_from 128 s place book) (sym stops ∙ stopped))
+  ends : run.stopped ≡ true → c.loop-place.written + length page ≡ length (printed_for s)
+  ends stopped = all_written s _ _ passed (none_behind s c.loop-place.first ran (sym stops ∙ stopped))
 
-      goes_on : run.stopped ≡ false → Printed s (written + k) (to_come s (first + run.answered) run.place run.book)
-      goes_on on =
-          subst (Printed s (written + k))
-          (more_behind s first (run_from 128 s place book) (sym stops ∙ on) ∙ ap (λ (r : Run). to_come s (first + r.answered) r.place r.book) (sym ran.is))
-          passed
+  goes_on : run.stopped ≡ false → Printed s (c.loop-place.written + length page) (to_come s (c.loop-place.first + run.answered) run.place run.book)
+  goes_on on =
+      subst (Printed s (c.loop-place.written + length page))
+      (more_behind s c.loop-place.first ran (sym stops ∙ on) ∙ ap (λ (r : Run). to_come s (c.loop-place.first + r.answered) r.place r.book) (sym left.0))
+      passed
 
 pub loop-place-init : goal.loop-place-init
 loop-place-init c = record {
@@ -87,27 +82,21 @@ loop-place-init c = record {
 }
 
 pub put-requires : goal.put-requires
-put-requires c =
-    let ran = page_run c.args.bytes.now c.loop-place.place c.loop-place.book c.run_on-run.result _ _ _ _ (omega arith) (omega arith) c.run_on-run.ensures.run c.run_on-run.ensures.numbers c.run_on-run.ensures.sums in
-    page_is_next ran _ _ _ _ _ c.loop-place.invariant.printed c.lines-k.ensures.written c.lines-k.ensures.contents
+put-requires c = rw c.as_str.ensures.value (next (goal.at.put-requires c).After-lines)
 
 pub returns-then-run : goal.returns-then-run
-returns-then-run c =
-    let ran = page_run c.args.bytes.now c.loop-place.place c.loop-place.book c.run_on-run.result _ _ _ _ (omega arith) (omega arith) c.run_on-run.ensures.run c.run_on-run.ensures.numbers c.run_on-run.ensures.sums in
-    ends ran _ _ _ _ _ c.loop-place.invariant.printed c.lines-k.ensures.written c.lines-k.ensures.contents c.if-run.true
+returns-then-run c = rw c.len-written.ensures.value (ends (goal.at.returns-then-run c).After-lines c.if-run.true)
 
 pub loop-place-smaller : goal.loop-place-smaller
-loop-place-smaller c =
-    let ran = page_run c.args.bytes.now c.loop-place.place c.loop-place.book c.run_on-run.result _ _ _ _ (omega arith) (omega arith) c.run_on-run.ensures.run c.run_on-run.ensures.numbers c.run_on-run.ensures.sums in
-    omega (arith, further ran c.if-run.false c.loop-place-test.true)
+loop-place-smaller c = omega (arith, further (goal.at.loop-place-smaller c).After-lines c.if-run.false)
 
 pub loop-place-preserved : goal.loop-place-preserved
 loop-place-preserved c =
-    let ran = page_run c.args.bytes.now c.loop-place.place c.loop-place.book c.run_on-run.result _ _ _ _ (omega arith) (omega arith) c.run_on-run.ensures.run c.run_on-run.ensures.numbers c.run_on-run.ensures.sums in
-    let more = further ran c.if-run.false c.loop-place-test.true in
+    let turn = (goal.at.loop-place-preserved c).After-lines in
+    let more = further turn c.if-run.false in
     record {
-      printed = goes_on ran _ _ _ _ _ c.loop-place.invariant.printed c.lines-k.ensures.written c.lines-k.ensures.contents c.if-run.false;
-      sound = stays_sound ran c.loop-place.invariant.sound;
+      printed = rw c.len-written.ensures.value (goes_on turn c.if-run.false);
+      sound = stays_sound turn;
       counted = omega (arith, more);
       short = omega (arith, more);
     }

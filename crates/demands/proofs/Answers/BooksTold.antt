@@ -4,6 +4,7 @@ use mathlib.Core.Bool.{Bool, true, false, cond, and-false, true≢false}
 use Prim.Native.Nat.{ℕ, ◌≤◌, ◌<◌}
 use native.Mathlib.Omega.{arith}
 use borrow.Author.Tests.{le-ltb}
+use Rattle.std.specs.Prelude.{Ok, Err}
 use Rattle.terms.specs.declared.refusal.Refusal.{Refusal}
 use Rattle.terms.specs.declared.refusal.Refusal.TheVariants.{OutOfPlace, OutOfRange}
 use Rattle.entries.specs.Entries.{kind_of}
@@ -16,8 +17,7 @@ use Rattle.entries.specs.declared.entry.Underlying as Underlying·row
 use Rattle.account.specs.DayEnd.{figures_installed}
 use Rattle.account.specs.Sound.{contract_allowed, underlying_allowed}
 use Rattle.account.specs.Steps.{tables_after}
-use Rattle.terms.specs.declared.verdict.Verdict.{Verdict}
-use Rattle.terms.specs.declared.verdict.Verdict.TheVariants.{Accepted, Refused}
+use Rattle.terms.specs.Verdicts.{Verdict}
 use Rattle.account.specs.declared.tables.Tables.{Tables}
 use Rattle.account.proofs.Passed.{went_on}
 use Rattle.set_up.specs.Stages.{book_after, entered, entered_as, in_place, new_book, opened, record_verdict, with_contract, with_entry}
@@ -29,26 +29,26 @@ use Rattle.demands.specs.Staged.{Staged}
 
 module _ (b : Book) (f : Figures) where
   -- "record out of its place" is 5, whatever its values are
-  pub out_of_place : (entry : Entry) → in_place b.stage (code_of (kind_of entry)) ≡ false → record_verdict b entry f ≡ Refused OutOfPlace
+  pub out_of_place : (entry : Entry) → in_place b.stage (code_of (kind_of entry)) ≡ false → record_verdict b entry f ≡ Err OutOfPlace
   unfolding record_verdict
   out_of_place entry e = rw e refl
 
   -- "only an accepted record moves this order on"; "a refused set-up record takes no number"
-  pub refused_stays : (entry : Entry) (why : Refusal) → record_verdict b entry f ≡ Refused why → (entered b entry f).book ≡ b
+  pub refused_stays : (entry : Entry) (why : Refusal) → record_verdict b entry f ≡ Err why → (entered b entry f).book ≡ b
   unfolding entered
   refused_stays entry why e = ap (λ (v : Verdict). (entered_as v b (book_after b entry f)).book) e
 
   -- "a contract with no underlying before it is 4"
-  pub no_underlying_yet : (row : Contract·row.Contract) → in_place b.stage 17 ≡ true → b.tables.m ≡ 0 → record_verdict b (Contract row) f ≡ Refused OutOfRange
+  pub no_underlying_yet : (row : Contract·row.Contract) → in_place b.stage 17 ≡ true → b.tables.m ≡ 0 → record_verdict b (Contract row) f ≡ Err OutOfRange
   unfolding record_verdict
   no_underlying_yet row placed none = rw (placed, none, le-ltb row.underlying 0 (omega arith)) refl
 
   -- "a 9th underlying or 65th contract" is 4
-  pub ninth_underlying : (row : Underlying·row.Underlying) → in_place b.stage 16 ≡ true → b.tables.m ≡ 8 → record_verdict b (Underlying row) f ≡ Refused OutOfRange
+  pub ninth_underlying : (row : Underlying·row.Underlying) → in_place b.stage 16 ≡ true → b.tables.m ≡ 8 → record_verdict b (Underlying row) f ≡ Err OutOfRange
   unfolding record_verdict
   ninth_underlying row placed all = rw (placed, all, and-false (underlying_allowed row)) refl
 
-  pub sixty_fifth_contract : (row : Contract·row.Contract) → in_place b.stage 17 ≡ true → b.tables.n ≡ 64 → record_verdict b (Contract row) f ≡ Refused OutOfRange
+  pub sixty_fifth_contract : (row : Contract·row.Contract) → in_place b.stage 17 ≡ true → b.tables.n ≡ 64 → record_verdict b (Contract row) f ≡ Err OutOfRange
   unfolding record_verdict
   sixty_fifth_contract row placed all = rw (placed, all, and-false (contract_allowed b.tables.m row)) refl
 
@@ -86,7 +86,7 @@ module _ (b : Book) (so : Staged b) where
   had_one on = so.some (λ waits. true≢false (sym (ap waits_for_rows waits) ∙ on))
 
   -- "an opening with no contract yet" is 5
-  pub no_contract_yet : (cash : ℕ) (f : Figures) → b.tables.n ≡ 0 → record_verdict b (Opening cash) f ≡ Refused OutOfPlace
+  pub no_contract_yet : (cash : ℕ) (f : Figures) → b.tables.n ≡ 0 → record_verdict b (Opening cash) f ≡ Err OutOfPlace
   no_contract_yet cash f none = out_of_place b f (Opening cash) (go b.stage refl)
     where
       go : (stage : Stage) → b.stage ≡ stage → in_place stage 18 ≡ false
@@ -113,8 +113,8 @@ module _ (b : Book) (so : Staged b) where
     entered_staged entry = go (record_verdict b entry f) refl
       where
         go : (v : Verdict) → record_verdict b entry f ≡ v → Staged (entered_as v b (book_after b entry f)).book
-        go Accepted e = after_staged entry (went_on (in_place b.stage (code_of (kind_of entry))) OutOfPlace _ e).0
-        go (Refused why) e = so
+        go (Ok tt) e = after_staged entry (went_on (in_place b.stage (code_of (kind_of entry))) OutOfPlace _ e).0
+        go (Err why) e = so
 
 pub new_staged : Staged new_book
 new_staged = record { none = λ waits. refl; some = λ never. absurd (never refl) }

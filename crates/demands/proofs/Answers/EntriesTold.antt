@@ -4,6 +4,7 @@ use mathlib.Core.Bool.{Bool, true, false, not}
 use mathlib.Core.List.{List, [], ◌++◌}
 use Prim.Native.Nat.{ℕ, ◌%◌}
 use lib.Dec.{eqb, leb, ltb}
+use Rattle.std.specs.Prelude.{Ok}
 use Rattle.terms.specs.Ranges.{range_of, ◌∈◌}
 use Rattle.terms.specs.declared.measure.Measure.TheVariants.{Price, Settlement, Unit, Limit, OpeningCash}
 use Rattle.terms.specs.declared.refusal.Refusal.TheVariants.{OutOfPlace, OutOfRange}
@@ -22,9 +23,8 @@ use Rattle.account.specs.InOrder.{entry_tests, first}
 use Rattle.account.specs.Rows.{contract, underlying}
 use Rattle.account.specs.Sound.{contract_allowed, underlying_allowed}
 use Rattle.account.specs.Steps.{refusal_of}
-use Rattle.terms.specs.Verdicts.{◌else◌then◌, number_in}
-use Rattle.terms.specs.declared.verdict.Verdict.{Verdict}
-use Rattle.terms.specs.declared.verdict.Verdict.TheVariants.{Accepted}
+use Rattle.terms.specs.Verdicts.{◌else◌then◌, number_in, accept}
+use Rattle.terms.specs.Verdicts.{Verdict}
 use Rattle.account.specs.declared.tables.Tables.{Tables}
 use Rattle.account.proofs.InOrder.{Adds, Told, accepted, both, entry_number, next, one, some_wrong}
 use Rattle.rows.specs.Given.{list_verdict}
@@ -77,7 +77,7 @@ module _ (row : Contract) where
 row_wrong : (allowed : Bool) (tests : List (Bool × ℕ)) → Adds allowed OutOfRange [] tests → wrong tests ≡ not allowed
 row_wrong allowed tests adds = ap (λ (number : ℕ). not (eqb number 0)) (sym (next adds accepted).number) ∙ go allowed
   where
-    go : (allowed : Bool) → not (eqb (number_in (allowed else OutOfRange then Accepted)) 0) ≡ not allowed
+    go : (allowed : Bool) → not (eqb (number_in (allowed else OutOfRange then accept)) 0) ≡ not allowed
     go true = refl
     go false = refl
 

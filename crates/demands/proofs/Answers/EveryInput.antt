@@ -8,10 +8,10 @@ use lib.Dec.{ltb}
 use lib.IntN.{ℤ}
 use lib.ListN.{drop, length, take}
 use lib.Seq.{drop_at}
+use Rattle.std.specs.Prelude.{Result, Ok, Err}
 use Rattle.terms.specs.declared.refusal.Refusal.{Refusal}
 use Rattle.terms.specs.declared.refusal.Refusal.TheVariants.{BufferTooShort, Misshapen}
 use Rattle.rules.specs.Charges as charges
-use Rattle.rules.specs.declared.Charge.{Charge}
 use Rattle.rules.proofs.margin.Met as margin_met
 use Rattle.rules.proofs.margin.Reads as margin
 use Rattle.rules.proofs.margin.Statement as margin_statement
@@ -36,15 +36,11 @@ use Rattle.reader.proofs.read_next.Met as read_next_met
 use Rattle.reader.proofs.read_next.Reads as read_next
 use Rattle.reader.proofs.read_next.Statement as read_next_statement
 use Rattle.reader.specs.declared.Read.{Read}
-use Rattle.writing.specs.Writing as writing
 use Rattle.writing.specs.Writing.{buffer_after, counts_barred, length_for, record_of, written_for}
-use Rattle.writing.specs.declared.Written.{Written}
-use Rattle.writing.specs.declared.Written.TheVariants as Written·of
 use Rattle.writing.proofs.write.Met as write_met
 use Rattle.writing.proofs.write.Reads as write
 use Rattle.writing.proofs.write.Statement as write_statement
-use Rattle.terms.specs.Verdicts.{number_in}
-use Rattle.terms.specs.declared.verdict.Verdict.TheVariants.{Accepted, Refused}
+use Rattle.terms.specs.Verdicts.{number_in, accept}
 use Rattle.rows.specs.Given.{list_verdict}
 use Rattle.set_up.specs.Stages.{new_book}
 use Rattle.desk.specs.Runs.{book_run, list_run, places_in, run_from}
@@ -59,11 +55,12 @@ use Rattle.desk.proofs.run_list.Met as run_list_met
 use Rattle.desk.proofs.run_list.Reads as run_list
 use Rattle.desk.proofs.run_list.Statement as run_list_statement
 use Rattle.desk.proofs.run_on.Reads as run_on
+use Rattle.reader.proofs.Reader.new.Reads as new
+use Rattle.reader.proofs.Reader.next.Reads as next
 use Rattle.demands.specs.Each.{Each, OneOf, run_numbers}
 use Rattle.demands.specs.InOrder.{list_tests, reading_tests, writing_tests}
 use Rattle.demands.specs.Records.{Typed}
 use Rattle.demands.proofs.Answers.EntriesTold.{list_number}
-use Rattle.demands.proofs.Answers.Lent.{NewAsks, NextAsks, NextSays}
 use Rattle.demands.proofs.Answers.PaperNumbers.{chosen, first_among}
 use Rattle.demands.proofs.Answers.RecordsTold.{read_number, write_number, write_untouched}
 use Rattle.demands.proofs.Answers.RunsTold.{answered_numbers, beyond_answered, list_run_numbers, run_numbers_lem, refused_list}
@@ -117,10 +114,10 @@ net_asks κs a = tt
 pub read_asks : (κs : _) (a : _) → read.Pre κs a
 read_asks κs a = tt
 
-pub new_asks : (κs : _) (a : _) → NewAsks κs a
+pub new_asks : (κs : _) (a : _) → new.Pre κs a
 new_asks κs a = tt
 
-pub next_asks : (κs : _) (a : _) → NextAsks κs a
+pub next_asks : (κs : _) (a : _) → next.Pre κs a
 next_asks κs a = tt
 
 pub read_next_asks : (κs : _) (a : _) → read_next.Pre κs a
@@ -139,13 +136,13 @@ pub ravundesk_run_book_asks : (κs : _) (a : _) → ravundesk_run_book.Pre κs a
 ravundesk_run_book_asks κs a = tt
 
 -- "refuses bad input by number"
-charge_number : (allowed : Bool) (charge r : Charge) → r ≡ charge → charges.number_in charge ≡ cond allowed 0 4 → OneOf (0 ∷ 4 ∷ []) (charges.number_in r)
-charge_number allowed charge r e says = subst (OneOf (0 ∷ 4 ∷ [])) (sym (ap charges.number_in e ∙ says)) (chosen (0 ∷ 4 ∷ []) allowed 0 4 refl refl)
+charge_number : (allowed : Bool) (charge r : (Result ℕ Refusal)) → r ≡ charge → number_in charge ≡ cond allowed 0 4 → OneOf (0 ∷ 4 ∷ []) (number_in r)
+charge_number allowed charge r e says = subst (OneOf (0 ∷ 4 ∷ [])) (sym (ap number_in e ∙ says)) (chosen (0 ∷ 4 ∷ []) allowed 0 4 refl refl)
 
-pub margin_numbers : (κs : _) (a : _) (r : _) (s : _) → margin.Post κs a r s → OneOf (0 ∷ 4 ∷ []) (charges.number_in r)
+pub margin_numbers : (κs : _) (a : _) (r : _) (s : _) → margin.Post κs a r s → OneOf (0 ∷ 4 ∷ []) (number_in r)
 margin_numbers κs a r s p = charge_number (charges.margin_allowed a.1.1.0 a.1.1.1.0 a.1.1.1.1.0 a.1.1.1.1.1.0) _ r p (margin_says a.0 a.1.0 _ _ _ _).0
 
-pub premium_numbers : (κs : _) (a : _) (r : _) (s : _) → premium.Post κs a r s → OneOf (0 ∷ 4 ∷ []) (charges.number_in r)
+pub premium_numbers : (κs : _) (a : _) (r : _) (s : _) → premium.Post κs a r s → OneOf (0 ∷ 4 ∷ []) (number_in r)
 premium_numbers κs a r s p = charge_number (charges.premium_allowed a.0 a.1.0) _ r p (premium_says a.0 a.1.0).0
 
 read_among : (s : List ℕ) (place : ℕ) (r : Reading) → r ≡ read_at s place → OneOf (0 ∷ 1 ∷ 2 ∷ 3 ∷ []) (reading.number_in r.answer)
@@ -157,15 +154,15 @@ read_among s place r is =
 pub read_numbers : (κs : _) (a : _) (r : _) (s : _) → read.Post κs a r s → OneOf (0 ∷ 1 ∷ 2 ∷ 3 ∷ []) (reading.number_in r.answer)
 read_numbers κs a r s p = read_among a.0.now a.1.0 r p
 
-pub next_numbers : (κs : _) (a : _) (r : _) (s : _) → NextSays κs a r s → OneOf (0 ∷ 1 ∷ 2 ∷ 3 ∷ []) (reading.number_in r.answer)
+pub next_numbers : (κs : _) (a : _) (r : _) (s : _) → next.Post κs a r s → OneOf (0 ∷ 1 ∷ 2 ∷ 3 ∷ []) (reading.number_in r.answer)
 next_numbers κs a r s p = read_among a.0.now.bytes.now a.0.now.place r p.0
 
 pub read_next_numbers : (κs : _) (a : _) (r : _) (s : _) → read_next.Post κs a r s → OneOf (0 ∷ 1 ∷ 2 ∷ 3 ∷ []) (reading.number_in r.reading.answer)
 read_next_numbers κs a r s p = read_among a.0.now a.1.0 r.reading (ap (λ (x : Read). x.reading) p)
 
-pub write_numbers : (κs : _) (a : _) (r : _) (s : _) → write.Post κs a r s → OneOf (0 ∷ 3 ∷ 17 ∷ []) (writing.number_in r)
+pub write_numbers : (κs : _) (a : _) (r : _) (s : _) → write.Post κs a r s → OneOf (0 ∷ 3 ∷ 17 ∷ []) (number_in r)
 write_numbers κs a r s p =
-    let said = ap writing.number_in p.0 ∙ write_number a.0 (length a.1.1.0.now) in
+    let said = ap number_in p.0 ∙ write_number a.0 (length a.1.1.0.now) in
     subst (OneOf (0 ∷ 3 ∷ 17 ∷ [])) (sym said) (first_among (0 ∷ 3 ∷ 17 ∷ []) (writing_tests a.0 (length a.1.1.0.now)) refl search)
 
 pub list_verdict_numbers : (κs : _) (a : _) (r : _) (s : _) → run_list.Post κs a r s → OneOf (0 ∷ 4 ∷ 5 ∷ []) (number_in r.verdict)
@@ -173,7 +170,7 @@ list_verdict_numbers κs a r s p =
     let said = ap (λ (run : Run). number_in run.verdict) p.0 ∙ list_number a.0 a.1.0 in
     subst (OneOf (0 ∷ 4 ∷ 5 ∷ [])) (sym said) (first_among (0 ∷ 4 ∷ 5 ∷ []) (list_tests a.0 a.1.0) refl search)
 
-pub book_verdict : (κs : _) (a : _) (r : _) (s : _) → run_book.Post κs a r s → r.verdict ≡ Accepted
+pub book_verdict : (κs : _) (a : _) (r : _) (s : _) → run_book.Post κs a r s → r.verdict ≡ accept
 book_verdict κs a r s p = ap (λ (run : Run). run.verdict) p.0
 
 pub list_numbers : (κs : _) (a : _) (r : _) (s : _) → run_list.Post κs a r s → Each (OneOf run_numbers) (take r.answered s.1.1.1.0.now)
@@ -186,29 +183,29 @@ pub on_numbers : (κs : _) (a : _) (r : _) (s : _) → run_on.Post κs a r s →
 on_numbers κs a r s p = answered_numbers _ (run_from (places_in a.1.1.1.0.now a.1.1.1.1.0.now) a.1.0.now a.1.1.0 a.0) r _ _ _ _ p (run_numbers_lem _ _ _ _)
 
 -- "and a refused entry changes neither the account nor one byte lent to us, except for the answer"
-pub write_refused : (κs : _) (a : _) (r : _) (s : _) → write.Post κs a r s → (writing.number_in r ≡ 0 → ⊥) → s.1.1.0.now ≡ a.1.1.0.now
+pub write_refused : (κs : _) (a : _) (r : _) (s : _) → write.Post κs a r s → (number_in r ≡ 0 → ⊥) → s.1.1.0.now ≡ a.1.1.0.now
 write_refused κs a r s p refused = p.1 ∙ write_untouched r _ _ refused
 
 -- the answer says how many bytes were written, and they are the record's
-written_all : (entry : Entry) (size n : ℕ) → written_for entry size ≡ Written·of.Bytes n → (counts_barred entry ≡ false) × (n ≡ length_for entry)
+written_all : (entry : Entry) (size n : ℕ) → written_for entry size ≡ Ok n → (counts_barred entry ≡ false) × (n ≡ length_for entry)
 unfolding written_for
 written_all entry size n = go (counts_barred entry) (ltb size (length_for entry))
   where
-    go : (barred short : Bool) → cond barred (Written·of.Refused Misshapen) (cond short (Written·of.Refused BufferTooShort) (Written·of.Bytes (length_for entry))) ≡ Written·of.Bytes n
+    go : (barred short : Bool) → cond barred (Err Misshapen) (cond short (Err BufferTooShort) (Ok (length_for entry))) ≡ Ok n
         → (barred ≡ false) × (n ≡ length_for entry)
     go true short e = let never : ◌≡◌ {A = ℕ} 0 1 = cc in absurd (omega arith)
     go false true e = let never : ◌≡◌ {A = ℕ} 0 1 = cc in absurd (omega arith)
     go false false e = (refl, cc)
 
 -- "else only the record's bytes"
-pub write_rest : (κs : _) (a : _) (r : _) (s : _) → write.Post κs a r s → Typed a.0 a.1.0 → (n : ℕ) → r ≡ Written·of.Bytes n → drop n s.1.1.0.now ≡ drop n a.1.1.0.now
+pub write_rest : (κs : _) (a : _) (r : _) (s : _) → write.Post κs a r s → Typed a.0 a.1.0 → (n : ℕ) → r ≡ Ok n → drop n s.1.1.0.now ≡ drop n a.1.1.0.now
 write_rest κs a r s p typed n e =
     let all = written_all a.0 (length a.1.1.0.now) n (sym p.0 ∙ e) in
-    ap (drop n) (p.1 ∙ ap (λ (w : Written). buffer_after w (record_of a.0 a.1.0) a.1.1.0.now) e)
+    ap (drop n) (p.1 ∙ ap (λ (w : (Result ℕ Refusal)). buffer_after w (record_of a.0 a.1.0) a.1.1.0.now) e)
     ∙ drop_at (record_of a.0 a.1.0) _ n (record_length a.0 a.1.0 typed all.0 ∙ sym all.1)
 
 -- a list that is refused whole
-pub list_refused : (κs : _) (a : _) (r : _) (s : _) → run_list.Post κs a r s → (why : Refusal) → r.verdict ≡ Refused why
+pub list_refused : (κs : _) (a : _) (r : _) (s : _) → run_list.Post κs a r s → (why : Refusal) → r.verdict ≡ Err why
     → let (numbers, sums) : List ℕ × List ℤ = (a.1.1.1.0.now, a.1.1.1.1.0.now) in
     let (numbers', sums') : List ℕ × List ℤ = (s.1.1.1.0.now, s.1.1.1.1.0.now) in
     (numbers' ≡ numbers) × (sums' ≡ sums) × (r.answered ≡ 0)

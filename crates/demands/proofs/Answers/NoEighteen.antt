@@ -4,7 +4,6 @@ use mathlib.Core.List.{List, [], ◌∷◌, map}
 use mathlib.Core.Path.{◌≡◌, refl, sym, subst, ◌∙◌}
 use Prim.Native.Nat.{ℕ}
 use lib.ListN.{take}
-use Rattle.rules.specs.Charges as charges
 use Rattle.rules.proofs.margin.Reads as margin
 use Rattle.rules.proofs.premium.Reads as premium
 use Rattle.exercise.proofs.exercise.Reads as exercise
@@ -15,7 +14,6 @@ use Rattle.entries.specs.declared.entry.Fill as Given
 use Rattle.reading.specs.Reading as reading
 use Rattle.reading.proofs.read.Reads as read
 use Rattle.reader.proofs.read_next.Reads as read_next
-use Rattle.writing.specs.Writing as writing
 use Rattle.writing.proofs.write.Reads as write
 use Rattle.account.specs.Checks.{member}
 use Rattle.account.specs.Fills.{named}
@@ -24,7 +22,7 @@ use Rattle.account.specs.Sound.{Sound}
 use Rattle.account.specs.Steps.{refusal_of}
 use Rattle.terms.specs.Verdicts.{number_in}
 use Rattle.account.specs.declared.account.Account.{Account}
-use Rattle.terms.specs.declared.verdict.Verdict.{Verdict}
+use Rattle.terms.specs.Verdicts.{Verdict}
 use Rattle.account.specs.declared.tables.Tables.{Tables}
 use Rattle.account.proofs.InOrder.{entry_number}
 use Rattle.set_up.specs.Stages.{new_book}
@@ -32,10 +30,10 @@ use Rattle.desk.specs.Runs.{Ran, book_run}
 use Rattle.desk.proofs.run_book.Reads as run_book
 use Rattle.desk.proofs.run_list.Reads as run_list
 use Rattle.desk.proofs.run_on.Reads as run_on
+use Rattle.reader.proofs.Reader.next.Reads as next
 use Rattle.demands.specs.Each.{Each, Not18, OneOf, fill_numbers, run_numbers}
 use Rattle.demands.specs.WithEighteen.{book_run_with18, fill_verdict_with18}
 use Rattle.demands.proofs.Answers.EveryInput.{book_numbers, list_numbers, list_verdict_numbers, margin_numbers, next_numbers, on_numbers, premium_numbers, read_next_numbers, read_numbers, write_numbers}
-use Rattle.demands.proofs.Answers.Lent.{NextSays}
 use Rattle.demands.proofs.Answers.PaperNumbers.{first_among}
 use Rattle.demands.proofs.Answers.RunsTold.{run_numbers_lem}
 use Rattle.demands.proofs.Entries.WithEighteen.{book_same, fill_same}
@@ -50,22 +48,22 @@ module _ (numbers : List ℕ) (unused : member 18 numbers ≡ false) where
   none_18 [] each = tt
   none_18 (n ∷ said) each = (not_18 each.0, none_18 said each.1)
 
-pub margin_not_18 : (κs : _) (a : _) (r : _) (s : _) → margin.Post κs a r s → Not18 (charges.number_in r)
+pub margin_not_18 : (κs : _) (a : _) (r : _) (s : _) → margin.Post κs a r s → Not18 (number_in r)
 margin_not_18 κs a r s p = not_18 (0 ∷ 4 ∷ []) refl (margin_numbers κs a r s p)
 
-pub premium_not_18 : (κs : _) (a : _) (r : _) (s : _) → premium.Post κs a r s → Not18 (charges.number_in r)
+pub premium_not_18 : (κs : _) (a : _) (r : _) (s : _) → premium.Post κs a r s → Not18 (number_in r)
 premium_not_18 κs a r s p = not_18 (0 ∷ 4 ∷ []) refl (premium_numbers κs a r s p)
 
 pub read_not_18 : (κs : _) (a : _) (r : _) (s : _) → read.Post κs a r s → Not18 (reading.number_in r.answer)
 read_not_18 κs a r s p = not_18 (0 ∷ 1 ∷ 2 ∷ 3 ∷ []) refl (read_numbers κs a r s p)
 
-pub next_not_18 : (κs : _) (a : _) (r : _) (s : _) → NextSays κs a r s → Not18 (reading.number_in r.answer)
+pub next_not_18 : (κs : _) (a : _) (r : _) (s : _) → next.Post κs a r s → Not18 (reading.number_in r.answer)
 next_not_18 κs a r s p = not_18 (0 ∷ 1 ∷ 2 ∷ 3 ∷ []) refl (next_numbers κs a r s p)
 
 pub read_next_not_18 : (κs : _) (a : _) (r : _) (s : _) → read_next.Post κs a r s → Not18 (reading.number_in r.reading.answer)
 read_next_not_18 κs a r s p = not_18 (0 ∷ 1 ∷ 2 ∷ 3 ∷ []) refl (read_next_numbers κs a r s p)
 
-pub write_not_18 : (κs : _) (a : _) (r : _) (s : _) → write.Post κs a r s → Not18 (writing.number_in r)
+pub write_not_18 : (κs : _) (a : _) (r : _) (s : _) → write.Post κs a r s → Not18 (number_in r)
 write_not_18 κs a r s p = not_18 (0 ∷ 3 ∷ 17 ∷ []) refl (write_numbers κs a r s p)
 
 pub exercise_not_18 : (κs : _) (a : _) (r : _) (s : _) → exercise.Post κs a r s → Not18 (number_in r)

@@ -1,9 +1,11 @@
 -- Each public contract admits one outcome, and so do those of the steps on an account: it says what the result equals, and two results that equal one value are equal.
 use mathlib.Core.Path.{◌≡◌, ◌∙◌, sym, ap}
+use Rattle.std.specs.Prelude.{ℕ, Result}
+use Rattle.terms.specs.declared.refusal.Refusal.{Refusal}
 use Rattle.rules.proofs.margin.Reads as margin
 use Rattle.rules.proofs.premium.Reads as premium
 use Rattle.rules.proofs.net.Reads as net
-use Rattle.terms.specs.declared.verdict.Verdict.{Verdict}
+use Rattle.terms.specs.Verdicts.{Verdict}
 use Rattle.exercise.proofs.exercise.Reads as exercise
 use Rattle.assignment.specs.Assignment.{assigned}
 use Rattle.assignment.specs.Lent.{covered_shares, lent_after, uncovered_shares}
@@ -11,7 +13,6 @@ use Rattle.assignment.proofs.assign.Reads as assign
 use Rattle.reading.proofs.read.Reads as read
 use Rattle.reader.proofs.read_next.Reads as read_next
 use Rattle.writing.specs.Writing.{record_of, buffer_after}
-use Rattle.writing.specs.declared.Written.{Written}
 use Rattle.writing.proofs.write.Reads as write
 use Rattle.postings.proofs.posted.Reads as posted
 use Rattle.entries.specs.declared.entry.Entry.{Entry}
@@ -39,12 +40,15 @@ use Rattle.steps.proofs.booked.Reads as booked
 use Rattle.steps.proofs.step.Reads as step
 use Rattle.set_up.proofs.rule.Reads as rule
 use Rattle.set_up.proofs.renewed.Reads as renewed
+use Rattle.set_up.proofs.Book.enter.Reads as enter
 use Rattle.rows.proofs.list_verdict.Reads as list_verdict
 use Rattle.desk.proofs.run_list.Reads as run_list
 use Rattle.desk.proofs.run_book.Reads as run_book
 use Rattle.desk.proofs.run_on.Reads as run_on
 use Rattle.archive.proofs.ravundesk_run_book.Reads as ravundesk_run_book
-use Rattle.demands.proofs.Answers.Lent.{NewSays, NextSays, PostSays}
+use Rattle.reader.proofs.Reader.new.Reads as new
+use Rattle.reader.proofs.Reader.next.Reads as next
+use Rattle.postings.proofs.post.Reads as post
 
 pub margin_one : (κs : _) (a : _) (r r' : _) (s s' : _) → margin.Post κs a r s → margin.Post κs a r' s' → r ≡ r'
 margin_one κs a r r' s s' p q = p ∙ sym q
@@ -76,21 +80,21 @@ pub read_next_one : (κs : _) (a : _) (r r' : _) (s s' : _) → read_next.Post �
 read_next_one κs a r r' s s' p q = p ∙ sym q
 
 -- a new reader is one reader, the reference in it too
-pub new_one : (κs : _) (a : _) (r r' : _) (s s' : _) → NewSays κs a r s → NewSays κs a r' s' → r ≡ r'
+pub new_one : (κs : _) (a : _) (r r' : _) (s s' : _) → new.Post κs a r s → new.Post κs a r' s' → r ≡ r'
 new_one κs a r r' s s' p q i = record { bytes = (p.0 ∙ sym q.0) i; place = (p.1 ∙ sym q.1) i }
 
 -- and the lent reader ends in one way
-pub next_one : (κs : _) (a : _) (r r' : _) (s s' : _) → NextSays κs a r s → NextSays κs a r' s' → (r ≡ r') × (s.0.now ≡ s'.0.now)
+pub next_one : (κs : _) (a : _) (r r' : _) (s s' : _) → next.Post κs a r s → next.Post κs a r' s' → (r ≡ r') × (s.0.now ≡ s'.0.now)
 next_one κs a r r' s s' p q = (p.0 ∙ sym q.0, p.1 ∙ sym q.1)
 
 -- and the lent buffer ends in one way: its contents follow from the answer
 pub write_one : (κs : _) (a : _) (r r' : _) (s s' : _) → write.Post κs a r s → write.Post κs a r' s' → (r ≡ r') × (s.1.1.0.now ≡ s'.1.1.0.now)
 write_one κs a r r' s s' p q =
     let same = p.0 ∙ sym q.0 in
-    (same, p.1 ∙ ap (λ (w : Written). buffer_after w (record_of a.0 a.1.0) a.1.1.0.now) same ∙ sym q.1)
+    (same, p.1 ∙ ap (λ (w : (Result ℕ Refusal)). buffer_after w (record_of a.0 a.1.0) a.1.1.0.now) same ∙ sym q.1)
 
 -- so does the lent sheet
-pub post_one : (κs : _) (a : _) (r r' : _) (s s' : _) → PostSays κs a r s → PostSays κs a r' s' → s.0.now ≡ s'.0.now
+pub post_one : (κs : _) (a : _) (r r' : _) (s s' : _) → post.Post κs a r s → post.Post κs a r' s' → s.0.now ≡ s'.0.now
 post_one κs a r r' s s' p q = p ∙ sym q
 
 pub posted_one : (κs : _) (a : _) (r r' : _) (s s' : _) → posted.Post κs a r s → posted.Post κs a r' s' → r ≡ r'
@@ -159,6 +163,10 @@ rule_one κs a r r' s s' of p q = p of.book of.sees ∙ sym (q of.book of.sees)
 
 pub renewed_one : (κs : _) (a : _) (r r' : _) (s s' : _) → renewed.Post κs a r s → renewed.Post κs a r' s' → r ≡ r'
 renewed_one κs a r r' s s' p q = p ∙ sym q
+
+-- and a book that is entered where it stands
+pub enter_one : (κs : _) (a : _) (r r' : _) (s s' : _) → enter.Post κs a r s → enter.Post κs a r' s' → s.0.now ≡ s'.0.now
+enter_one κs a r r' s s' p q = p ∙ sym q
 
 pub list_verdict_one : (κs : _) (a : _) (r r' : _) (s s' : _) → list_verdict.Post κs a r s → list_verdict.Post κs a r' s' → r ≡ r'
 list_verdict_one κs a r r' s s' p q = p ∙ sym q

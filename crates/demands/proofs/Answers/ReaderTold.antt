@@ -13,7 +13,7 @@ use Rattle.reading.specs.declared.Answer.TheVariants.{Found, Refused}
 use Rattle.reading.specs.declared.Reading.{Reading}
 use Rattle.reader.specs.Reader.{moved_on, next_place}
 use Rattle.reader.specs.declared.Reader.{Reader}
-use Rattle.demands.proofs.Answers.Lent.{NextSays}
+use Rattle.reader.proofs.Reader.next.Reads as next
 use Rattle.demands.proofs.Answers.RecordsTold.{read_number, read_place}
 
 -- no byte is left to read: the first test holds
@@ -30,7 +30,7 @@ module _ (before after : Reader) (r : Reading) (answer : r ≡ read_at before.by
   unmoved (Found entry len) e refused = absurd (refused refl)
   unmoved (Refused why place) e refused = stands (Refused why place) e
 
-module _ (κs : _) (a : _) (r : _) (s : _) (says : NextSays κs a r s) where
+module _ (κs : _) (a : _) (r : _) (s : _) (says : next.Post κs a r s) where
   pub next_found : (entry : Entry) (len : ℕ) → r.answer ≡ Found entry len → (s.0.now.bytes ≡ a.0.now.bytes) × (s.0.now.place ≡ a.0.now.place + len)
   next_found entry len e =
       let gone = stands a.0.now s.0.now r says.0 says.1 (Found entry len) e in

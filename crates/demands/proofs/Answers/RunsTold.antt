@@ -8,6 +8,7 @@ use borrow.Author.Tests.{lt-ltb}
 use lib.Dec.{ltb}
 use lib.IntN.{ℤ}
 use lib.ListN.{length, drop, take}
+use Rattle.std.specs.Prelude.{Ok, Err}
 use Rattle.terms.specs.Refusals.{number_of}
 use Rattle.terms.specs.declared.refusal.Refusal.{Refusal}
 use Rattle.entries.specs.declared.entry.Entry.{Entry}
@@ -18,9 +19,8 @@ use Rattle.reader.specs.Reader.{found_at}
 use Rattle.reading.specs.declared.Answer.{Answer}
 use Rattle.reading.specs.declared.Answer.TheVariants as Reading·of
 use Rattle.reading.specs.declared.Reading.{Reading}
-use Rattle.terms.specs.Verdicts.{number_in}
-use Rattle.terms.specs.declared.verdict.Verdict.{Verdict}
-use Rattle.terms.specs.declared.verdict.Verdict.TheVariants.{Accepted, Refused}
+use Rattle.terms.specs.Verdicts.{number_in, accept}
+use Rattle.terms.specs.Verdicts.{Verdict}
 use Rattle.account.specs.declared.tables.Tables.{Tables}
 use Rattle.set_up.specs.Stages.{Entered, entered, opened}
 use Rattle.set_up.specs.declared.stages.Book.{Book}
@@ -68,8 +68,8 @@ run_numbers_lem (suc places) s place b =
     go true false more rest = (answer_number b s place, rest)
 
 pub list_run_numbers : (v : Verdict) (t : Tables) (cash n : ℕ) (s : List ℕ) → AllNumbered (list_by v t cash n s)
-list_run_numbers Accepted t cash n s = run_numbers_lem n s 0 (opened t cash)
-list_run_numbers (Refused why) t cash n s = tt
+list_run_numbers (Ok tt) t cash n s = run_numbers_lem n s 0 (opened t cash)
+list_run_numbers (Err why) t cash n s = tt
 
 -- the answer to an entered record, before those of the rest
 abbrev pub led : Entered → Ran → Ran
@@ -108,9 +108,9 @@ module _ (v : Verdict) (run : Ran) (r : Run) (numbers₀ numbers : List ℕ) (su
       (beyond_answers (λ answer. answer.0) run.answers numbers₀ numbers left.1.0, beyond_answers (λ answer. answer.1) run.answers sums₀ sums left.1.1)
 
 pub refused_list : (n : ℕ) (s : List ℕ) (r : Run) (numbers₀ numbers : List ℕ) (sums₀ sums : List ℤ) (v : Verdict) (t : Tables) (cash : ℕ)
-    → Leaves v (list_by v t cash n s) r numbers₀ numbers sums₀ sums → (why : Refusal) → r.verdict ≡ Refused why → (numbers ≡ numbers₀) × (sums ≡ sums₀) × (r.answered ≡ 0)
-refused_list n s r numbers₀ numbers sums₀ sums Accepted t cash left why refused =
+    → Leaves v (list_by v t cash n s) r numbers₀ numbers sums₀ sums → (why : Refusal) → r.verdict ≡ Err why → (numbers ≡ numbers₀) × (sums ≡ sums₀) × (r.answered ≡ 0)
+refused_list n s r numbers₀ numbers sums₀ sums (Ok tt) t cash left why refused =
     let accepted = ap (λ (run : Run). run.verdict) left.0 in
     let never : ◌≡◌ {A = ℕ} 0 1 = cc in
     absurd (omega arith)
-refused_list n s r numbers₀ numbers sums₀ sums (Refused other) t cash left why refused = (left.1.0, left.1.1, ap (λ (run : Run). run.answered) left.0)
+refused_list n s r numbers₀ numbers sums₀ sums (Err other) t cash left why refused = (left.1.0, left.1.1, ap (λ (run : Run). run.answered) left.0)

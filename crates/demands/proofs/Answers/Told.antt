@@ -2,17 +2,18 @@
 use mathlib.Core.Path.{refl}
 use mathlib.Core.Bool.{Bool, true, false, cond}
 use Prim.Native.Nat.{ℕ}
+use Rattle.std.specs.Prelude.{Ok, Err}
 use Rattle.terms.specs.declared.class.Class.{Class}
 use Rattle.terms.specs.declared.refusal.Refusal.TheVariants.{OutOfRange}
 use Rattle.terms.specs.declared.right.Right.{Right}
-use Rattle.rules.specs.Charges.{margin_allowed, margin_charge, premium_allowed, premium_charge, number_in, fen_in}
+use Rattle.terms.specs.Verdicts.{number_in}
+use Rattle.rules.specs.Charges.{margin_allowed, margin_charge, premium_allowed, premium_charge, fen_in}
 use Rattle.rules.specs.Margin.{rates_of, margin_of}
 use Rattle.rules.specs.Premium.{premium_of}
-use Rattle.rules.specs.declared.Charge.TheVariants.{Fen, Refused}
 use Rattle.demands.specs.Says.{Says}
 
-tested : (allowed : Bool) (fen : ℕ) → Says allowed fen (cond allowed (Fen fen) (Refused OutOfRange))
-unfolding number_in fen_in
+tested : (allowed : Bool) (fen : ℕ) → Says allowed fen (cond allowed (Ok fen) (Err OutOfRange))
+unfolding fen_in
 tested true fen = (refl, refl)
 tested false fen = (refl, refl)
 

@@ -4,6 +4,7 @@ use mathlib.Core.Path.{◌≡◌, refl, sym, ap, ap₂, ◌∙◌}
 use Prim.Native.Nat.{ℕ, suc, ◌+◌, ◌<◌}
 use native.Mathlib.Omega.{arith}
 use lib.ListN.{length, length-append}
+use Rattle.std.specs.Prelude.{Ok, Err}
 use Rattle.entries.specs.declared.entry.Entry.{Entry}
 use Rattle.entries.specs.declared.entry.Entry.TheVariants.{Deposit, Withdraw, Lock, Unlock, Order, Fill, Cancel, DayEnd, Pay, Drop, Underlying, Contract, Opening}
 use Rattle.entries.specs.declared.entry.Figures.{Figures}
@@ -15,8 +16,7 @@ use Rattle.account.specs.Opening.{opening}
 use Rattle.account.specs.Steps.{account_after, outcome, refusal_of, run, step, tables_after}
 use Rattle.account.specs.declared.account.Account.{Account}
 use Rattle.account.specs.declared.judged.Outcome.{Outcome}
-use Rattle.terms.specs.declared.verdict.Verdict.{Verdict}
-use Rattle.terms.specs.declared.verdict.Verdict.TheVariants.{Accepted, Refused}
+use Rattle.terms.specs.Verdicts.{Verdict, accept}
 use Rattle.account.specs.declared.tables.Tables.{Tables}
 use Rattle.rows.specs.Given.{list_verdict}
 use Rattle.set_up.specs.Stages.{Entered, book_after, entered, entered_as, record_verdict}
@@ -37,8 +37,8 @@ as_entered after = record { verdict = after.verdict; book = in_hand after.tables
 
 module _ (t : Tables) (a : Account) (f : Figures) where
   by_verdict : (v : Verdict) (t' : Tables) (a' : Account) → entered_as v (in_hand t a) (in_hand t' a') ≡ as_entered (outcome v t a t' a')
-  by_verdict Accepted t' a' = refl
-  by_verdict (Refused why) t' a' = refl
+  by_verdict (Ok tt) t' a' = refl
+  by_verdict (Err why) t' a' = refl
 
   stepping : (entry : Entry) → entered_as (refusal_of t a entry f) (in_hand t a) (in_hand (tables_after t entry f) (account_after t a entry f)) ≡ as_entered (step t a entry f)
   unfolding step
@@ -94,7 +94,7 @@ from before t a (e ∷ es) (carried, rest) =
     ∙ ap (λ (x : Entered). (led x (run_from (length es) (before' ++ records_of es) (length before') x.book)).answers) (entering t a e.1 e.0)
     ∙ ap (answer_of after ∷◌) (from before' after.tables after.account es rest)
 
-pub records_run : (t : Tables) (cash : ℕ) (entries : List (Entry × Figures)) → list_verdict t cash ≡ Accepted → Each (λ e. Carried e.0 e.1) entries
+pub records_run : (t : Tables) (cash : ℕ) (entries : List (Entry × Figures)) → list_verdict t cash ≡ accept → Each (λ e. Carried e.0 e.1) entries
     → (list_run t cash (length entries) (records_of entries)).answers ≡ map answer_of (run t (opening cash) entries)
 records_run t cash entries accepted carried =
     ap (λ (v : Verdict). (list_by v t cash (length entries) (records_of entries)).answers) accepted ∙ from [] t (opening cash) entries carried

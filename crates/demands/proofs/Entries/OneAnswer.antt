@@ -3,6 +3,7 @@ use mathlib.Core.Path.{◌≡◌, refl, sym, ap, subst}
 use Prim.Native.Nat.{ℕ}
 use native.Mathlib.Omega.{arith}
 use lib.ListN.{get_or-map}
+use Rattle.std.specs.Prelude.{Ok, Err}
 use Rattle.terms.specs.Refusals.{number_of}
 use Rattle.terms.proofs.Refusals.{some_number}
 use Rattle.rules.specs.Netting.{against_covered, against_short, netted}
@@ -18,8 +19,7 @@ use Rattle.account.specs.Sound.{Sound}
 use Rattle.account.specs.Steps.{account_after}
 use Rattle.terms.specs.Verdicts.{number_in}
 use Rattle.account.specs.declared.account.Account.{Account}
-use Rattle.terms.specs.declared.verdict.Verdict.{Verdict}
-use Rattle.terms.specs.declared.verdict.Verdict.TheVariants as Verdict·of
+use Rattle.terms.specs.Verdicts.{Verdict}
 use Rattle.account.specs.declared.tables.Tables.{Tables}
 use Rattle.set_up.specs.Sound.{SoundBook}
 use Rattle.set_up.specs.Stages.{book_after, entered, entered_as, record_verdict}
@@ -43,16 +43,16 @@ module _ (b : Book) (f : Figures) where
     where
       go : (v : Verdict) → number_in (entered_as v b (book_after b (DayEnd n m) f)).verdict ≡ 0
           → position (entered_as v b (book_after b (DayEnd n m) f)).book.account c ≡ netted (position b.account c)
-      go Verdict·of.Accepted e = day_nets _ b.account c
-      go (Verdict·of.Refused why) e = absurd (omega (arith, some_number why, e))
+      go (Ok tt) e = day_nets _ b.account c
+      go (Err why) e = absurd (omega (arith, some_number why, e))
 
   entered_refused : (entry : Entry) → (number_in (entered b entry f).verdict ≡ 0 → ⊥) → (entered b entry f).book ≡ b
   unfolding entered
   entered_refused entry refused = go (record_verdict b entry f) refused
     where
       go : (v : Verdict) → (number_in (entered_as v b (book_after b entry f)).verdict ≡ 0 → ⊥) → (entered_as v b (book_after b entry f)).book ≡ b
-      go Verdict·of.Accepted never = absurd (never refl)
-      go (Verdict·of.Refused why) never = refl
+      go (Ok tt) never = absurd (never refl)
+      go (Err why) never = refl
 
 pub answer_available : (b : Book) (reading : Reading) → let answer = answer_to b reading in answer.available ≡ available_in answer.book
 unfolding answer_to

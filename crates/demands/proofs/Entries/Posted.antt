@@ -2,6 +2,7 @@
 use mathlib.Core.Path.{◌≡◌, refl, sym, ap, ◌∙◌}
 use Prim.Native.Nat.{ℕ}
 use native.Mathlib.Omega.{arith}
+use Rattle.std.specs.Prelude.{Ok, Err}
 use Rattle.terms.specs.Kinds.{moves_of, opens_of, buys_of}
 use Rattle.rules.specs.Count.{for_count}
 use Rattle.entries.specs.declared.entry.Entry.{Entry}
@@ -18,8 +19,7 @@ use Rattle.account.specs.Transfers.{deposit_change, withdraw_change, pay_change,
 use Rattle.account.specs.declared.account.Account.{Account}
 use Rattle.account.specs.declared.judged.Named.{Named}
 use Rattle.account.specs.declared.judged.Outcome.{Outcome}
-use Rattle.terms.specs.declared.verdict.Verdict.{Verdict}
-use Rattle.terms.specs.declared.verdict.Verdict.TheVariants.{Accepted, Refused}
+use Rattle.terms.specs.Verdicts.{Verdict, accept}
 use Rattle.account.specs.declared.tables.Tables.{Tables}
 use Rattle.account.proofs.Passed.{accepted_passed, facts_known}
 use Rattle.postings.specs.Postings.{all_posted}
@@ -28,7 +28,7 @@ use Rattle.steps.proofs.step.Reads as stepping
 use Rattle.demands.specs.Postings.{postings_of}
 
 module _ (t : Tables) (a : Account) (f : Figures) where
-  entry_posted : (entry : Entry) → refusal_of t a entry f ≡ Accepted → (account_after t a entry f).sheet ≡ all_posted a.sheet (postings_of t a entry f)
+  entry_posted : (entry : Entry) → refusal_of t a entry f ≡ accept → (account_after t a entry f).sheet ≡ all_posted a.sheet (postings_of t a entry f)
   unfolding refusal_of account_after postings_of applied deposit_change withdraw_change pay_change drop_change lock_change unlock_change order_change fill_change cancel_change named day_ended kept_anew units_released daily_zero premium_joined margin_afresh positions_netted orders_cancelled margin_in
   entry_posted (Deposit amount) accepted = refl
   entry_posted (Withdraw amount) accepted = refl
@@ -48,13 +48,13 @@ module _ (t : Tables) (a : Account) (f : Figures) where
   entry_posted (Opening cash) accepted = refl
 
 -- by the verdict: a refused entry is not accepted
-by_verdict : (t : Tables) (a : Account) (entry : Entry) (f : Figures) (verdict : Verdict) → refusal_of t a entry f ≡ verdict → (outcome verdict t a (tables_after t entry f) (account_after t a entry f)).verdict ≡ Accepted
+by_verdict : (t : Tables) (a : Account) (entry : Entry) (f : Figures) (verdict : Verdict) → refusal_of t a entry f ≡ verdict → (outcome verdict t a (tables_after t entry f) (account_after t a entry f)).verdict ≡ accept
     → (outcome verdict t a (tables_after t entry f) (account_after t a entry f)).account.sheet ≡ all_posted a.sheet (postings_of t a entry f)
-by_verdict t a entry f Accepted e accepted = entry_posted t a f entry e
-by_verdict t a entry f (Refused why) e accepted = let never : ◌≡◌ {A = ℕ} 0 1 = cc in absurd (omega arith)
+by_verdict t a entry f (Ok tt) e accepted = entry_posted t a f entry e
+by_verdict t a entry f (Err why) e accepted = let never : ◌≡◌ {A = ℕ} 0 1 = cc in absurd (omega arith)
 
 -- the same of the function that steps
-pub step_posted : (κs : _) (a : _) (r : _) (s : _) → stepping.Post κs a r s → r.verdict ≡ Accepted
+pub step_posted : (κs : _) (a : _) (r : _) (s : _) → stepping.Post κs a r s → r.verdict ≡ accept
     → let (tables, account, entry, figures) : Tables × Account × Entry × Figures = (a.0, a.1.0, a.1.1.0, a.1.1.1.0) in
     r.account.sheet ≡ all_posted account.sheet (postings_of tables account entry figures)
 unfolding step

@@ -3,20 +3,20 @@ use mathlib.Core.Path.{◌≡◌, refl, ap}
 use mathlib.Core.List.{List, [], ◌∷◌}
 use Prim.Native.Nat.{suc}
 use lib.ListN.{length}
+use Rattle.std.specs.Prelude.{Err}
 use Rattle.terms.specs.declared.refusal.Refusal.{Refusal}
 use Rattle.entries.specs.declared.entry.Entry.{Entry}
 use Rattle.entries.specs.declared.entry.Figures.{Figures}
 use Rattle.account.specs.DayEnd.{kept_anew, orders_cancelled, positions_netted, margin_afresh, premium_joined, daily_zero, units_released, day_ended}
 use Rattle.account.specs.Steps.{refusal_of, step, run}
 use Rattle.account.specs.declared.account.Account.{Account}
-use Rattle.terms.specs.declared.verdict.Verdict.TheVariants.{Refused}
 use Rattle.account.specs.declared.tables.Tables.{Tables}
 use Rattle.account.specs.Sound.{Sound}
 use Rattle.account.proofs.StepSound.{step_sound}
 use Rattle.steps.proofs.step.Reads as stepping
 
-pub refused_same : (t : Tables) (a : Account) (entry : Entry) (f : Figures) (why : Refusal) → refusal_of t a entry f ≡ Refused why
-    → ((step t a entry f).verdict ≡ Refused why) × ((step t a entry f).tables ≡ t) × ((step t a entry f).account ≡ a)
+pub refused_same : (t : Tables) (a : Account) (entry : Entry) (f : Figures) (why : Refusal) → refusal_of t a entry f ≡ Err why
+    → ((step t a entry f).verdict ≡ Err why) × ((step t a entry f).tables ≡ t) × ((step t a entry f).account ≡ a)
 unfolding step
 refused_same t a entry f why e = rw e (refl, refl, refl)
 

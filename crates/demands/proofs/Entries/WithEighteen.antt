@@ -7,6 +7,7 @@ use native.Mathlib.Omega.{arith}
 use borrow.Author.Tests.{le-leb}
 use lib.Dec.{leb, ltb}
 use lib.ListN.{length}
+use Rattle.std.specs.Prelude.{Ok}
 use Rattle.terms.specs.Kinds.{buys_of}
 use Rattle.terms.specs.Ranges.{range_of, ◌∈◌}
 use Rattle.terms.specs.declared.measure.Measure.TheVariants.{Price, Quantity, Money}
@@ -25,11 +26,10 @@ use Rattle.account.specs.Fills.{named, paid, price_allowed, fill_verdict}
 use Rattle.account.specs.Money.{kind_of}
 use Rattle.account.specs.Sound.{Sound}
 use Rattle.account.specs.Steps.{refusal_of}
-use Rattle.terms.specs.Verdicts.{◌else◌then◌}
+use Rattle.terms.specs.Verdicts.{◌else◌then◌, accept}
 use Rattle.account.specs.declared.account.Account.{Account}
 use Rattle.account.specs.declared.judged.Named.{Named}
-use Rattle.terms.specs.declared.verdict.Verdict.{Verdict}
-use Rattle.terms.specs.declared.verdict.Verdict.TheVariants.{Accepted}
+use Rattle.terms.specs.Verdicts.{Verdict}
 use Rattle.account.specs.declared.tables.Tables.{Tables}
 use Rattle.account.proofs.Decided.{checked}
 use Rattle.account.proofs.Filled.{fill_passed, fill_reached}
@@ -50,8 +50,8 @@ same_behind true why rest rest' same = same refl
 same_behind false why rest rest' same = refl
 
 -- a last check that is passed wherever all others are changes no verdict
-one_more : (checks : List (Bool × Refusal)) (passed : Bool) (why : Refusal) → (checked checks ≡ Accepted → passed ≡ true) → checked (checks ++ (passed, why) ∷ []) ≡ checked checks
-one_more [] passed why too = ap (λ (p : Bool). p else why then Accepted) (too refl)
+one_more : (checks : List (Bool × Refusal)) (passed : Bool) (why : Refusal) → (checked checks ≡ accept → passed ≡ true) → checked (checks ++ (passed, why) ∷ []) ≡ checked checks
+one_more [] passed why too = ap (λ (p : Bool). p else why then accept) (too refl)
 one_more (check ∷ rest) passed why too =
     same_behind check.0 check.1 (checked (rest ++ (passed, why) ∷ [])) (checked rest) (λ first. one_more rest passed why (λ accepted. too (rw first accepted)))
 
@@ -119,7 +119,7 @@ pub book_same : (places : ℕ) (s : List ℕ) → book_run_with18 places s ≡ b
 book_same places s = run_same places s 0 new_book new_sound
 
 -- the same of a list whose tables and cash are accepted, of tables that have as many rows as their type says
-pub list_same : (t : Tables) (cash places : ℕ) (s : List ℕ) → list_verdict t cash ≡ Accepted → length t.underlyings ≡ 8 → length t.contracts ≡ 64
+pub list_same : (t : Tables) (cash places : ℕ) (s : List ℕ) → list_verdict t cash ≡ accept → length t.underlyings ≡ 8 → length t.contracts ≡ 64
     → run_by answer_with18 places s 0 (opened t cash) ≡ list_run t cash places s
 list_same t cash places s accepted underlyings contracts =
     run_same places s 0 (opened t cash) (list_sound t cash underlyings contracts accepted) ∙ ap (λ (v : Verdict). list_by v t cash places s) (sym accepted)

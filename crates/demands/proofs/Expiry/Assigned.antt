@@ -7,11 +7,11 @@ use native.Mathlib.Omega.{arith}
 use lib.Dec.{leb}
 use lib.ListN.{drop, get_or, length, get_or-append}
 use lib.Seq.{drop_at}
+use Rattle.std.specs.Prelude.{Ok, Err}
 use Rattle.terms.specs.Listed.{listed}
-use Rattle.terms.specs.Verdicts.{number_in, ◌else◌then◌}
+use Rattle.terms.specs.Verdicts.{number_in, ◌else◌then◌, accept}
 use Rattle.terms.specs.declared.refusal.Refusal.TheVariants.{BufferTooShort, OutOfRange}
-use Rattle.terms.specs.declared.verdict.Verdict.{Verdict}
-use Rattle.terms.specs.declared.verdict.Verdict.TheVariants.{Accepted, Refused}
+use Rattle.terms.specs.Verdicts.{Verdict}
 use Rattle.terms.proofs.Listed.{listed_at, listed_is}
 use Rattle.terms.proofs.Sums.{Σ-same, Σ-term}
 use Rattle.assignment.specs.Assignment.{all_totals, assign_allowed, assigned, covered_first, net_total, uncovered_then}
@@ -46,12 +46,12 @@ module _ (E : ℕ) (short covered : List ℕ) (places places' : ℕ) where
   assign_number = go (assign_allowed E short covered) refl (leb (length short) places && leb (length short) places') refl
     where
       go : (may : Bool) → assign_allowed E short covered ≡ may → (room : Bool) → (leb (length short) places && leb (length short) places') ≡ room
-          → Numbered E short covered places places' (number_in (may else OutOfRange then room else BufferTooShort then Accepted))
+          → Numbered E short covered places places' (number_in (may else OutOfRange then room else BufferTooShort then accept))
       go false a room r = not_allowed a
       go true a false r = no_place a r
       go true a true r = done a r
 
-  accepted_allowed : assign_verdict E short covered places places' ≡ Accepted → Allowed E short covered
+  accepted_allowed : assign_verdict E short covered places places' ≡ accept → Allowed E short covered
   accepted_allowed accepted = go (number_in (assign_verdict E short covered places places')) (ap number_in accepted) assign_number
     where
       go : (n : ℕ) → n ≡ 0 → Numbered E short covered places places' n → Allowed E short covered
@@ -72,8 +72,8 @@ assign_numbers κs a r s p = one_of (number_in r) (assign_numbered κs a r s p)
 
 -- "refusal by number and nothing written"
 untouched : (r : Verdict) (contracts lent : List ℕ) → (number_in r ≡ 0 → ⊥) → lent_after r contracts lent ≡ lent
-untouched Accepted contracts lent refused = absurd (refused refl)
-untouched (Refused why) contracts lent refused = refl
+untouched (Ok tt) contracts lent refused = absurd (refused refl)
+untouched (Err why) contracts lent refused = refl
 
 pub assign_refused : (κs : _) (a : _) (r : _) (s : _) → assign.Post κs a r s → (number_in r ≡ 0 → ⊥) → (s.1.1.1.0.now ≡ a.1.1.1.0.now) × (s.1.1.1.1.0.now ≡ a.1.1.1.1.0.now)
 assign_refused κs a r s p refused = (p.1.0 ∙ untouched r _ _ refused, p.1.1 ∙ untouched r _ _ refused)
@@ -83,7 +83,7 @@ behind n after contracts lent sized e =
     ap (drop n) e ∙ drop_at contracts (drop (length contracts) lent) n sized ∙ ap (λ (k : ℕ). drop k lent) sized
 
 -- what an accepted one leaves
-module _ (E : ℕ) (short covered lent lent' cover naked : List ℕ) (verdict : Verdict) (judged : verdict ≡ assign_verdict E short covered (length lent) (length lent')) (covers : cover ≡ lent_after verdict (covered_shares covered (assigned E short covered)) lent) (nakeds : naked ≡ lent_after verdict (uncovered_shares covered (assigned E short covered)) lent') (accepted : verdict ≡ Accepted) where
+module _ (E : ℕ) (short covered lent lent' cover naked : List ℕ) (verdict : Verdict) (judged : verdict ≡ assign_verdict E short covered (length lent) (length lent')) (covers : cover ≡ lent_after verdict (covered_shares covered (assigned E short covered)) lent) (nakeds : naked ≡ lent_after verdict (uncovered_shares covered (assigned E short covered)) lent') (accepted : verdict ≡ accept) where
   ok : Allowed E short covered
   ok = accepted_allowed E short covered (length lent) (length lent') (sym judged ∙ accepted)
 
@@ -155,7 +155,7 @@ module _ (E : ℕ) (short covered lent lent' cover naked : List ℕ) (verdict : 
       let term = Σ-term (length short) i (net_total short covered) there in
       omega (arith, most, term, none)
 
-module _ (κs : _) (a : _) (r : _) (s : _) (p : assign.Post κs a r s) (accepted : r ≡ Accepted) where
+module _ (κs : _) (a : _) (r : _) (s : _) (p : assign.Post κs a r s) (accepted : r ≡ accept) where
   pub assign_assigns : Assigns a.0.0 a.1.0.now a.1.1.0.now s.1.1.1.0.now s.1.1.1.1.0.now
   assign_assigns =
       assigns a.0.0 a.1.0.now a.1.1.0.now a.1.1.1.0.now a.1.1.1.1.0.now s.1.1.1.0.now s.1.1.1.1.0.now r p.0 p.1.0 p.1.1 accepted

@@ -2,11 +2,11 @@
 use mathlib.Core.List.{[], ◌∷◌}
 use mathlib.Core.Path.{◌≡◌, refl, sym, ap, subst, ◌∙◌}
 use Prim.Native.Nat.{ℕ}
-use Rattle.terms.specs.Verdicts.{number_in}
+use Rattle.std.specs.Prelude.{Ok}
+use Rattle.terms.specs.Verdicts.{number_in, accept}
 use Rattle.terms.specs.declared.count.Contracts.{Contracts}
 use Rattle.terms.specs.declared.count.Position.{Position}
 use Rattle.terms.specs.declared.right.Right.{Right}
-use Rattle.terms.specs.declared.verdict.Verdict.TheVariants.{Accepted}
 use Rattle.exercise.specs.Exercise.{Good}
 use Rattle.exercise.proofs.Good.{Numbered, accepted_good, exercise_number, good, good_accepted, long_too_small, means_too_small, out_of_range}
 use Rattle.exercise.proofs.exercise.Met as exercise_met
@@ -33,8 +33,8 @@ one_of _ (means_too_small _ _ _) = refl
 pub exercise_numbers : (κs : _) (a : _) (r : _) (s : _) → exercise.Post κs a r s → OneOf (0 ∷ 4 ∷ 22 ∷ 23 ∷ []) (number_in r)
 exercise_numbers κs a r s p = one_of (number_in r) (exercise_numbered κs a r s p)
 
-pub exercise_good : (κs : _) (a : _) (r : _) (s : _) → exercise.Post κs a r s → r ≡ Accepted → Good a.0 a.1.0 a.1.1.0 a.1.1.1.0 a.1.1.1.1.0 a.1.1.1.1.1.0
+pub exercise_good : (κs : _) (a : _) (r : _) (s : _) → exercise.Post κs a r s → r ≡ accept → Good a.0 a.1.0 a.1.1.0 a.1.1.1.0 a.1.1.1.1.0 a.1.1.1.1.1.0
 exercise_good κs a r s p e = accepted_good _ _ _ _ _ _ (sym p ∙ e)
 
-pub good_exercised : (κs : _) (a : _) (r : _) (s : _) → exercise.Post κs a r s → Good a.0 a.1.0 a.1.1.0 a.1.1.1.0 a.1.1.1.1.0 a.1.1.1.1.1.0 → r ≡ Accepted
+pub good_exercised : (κs : _) (a : _) (r : _) (s : _) → exercise.Post κs a r s → Good a.0 a.1.0 a.1.1.0 a.1.1.1.0 a.1.1.1.1.0 a.1.1.1.1.1.0 → r ≡ accept
 good_exercised κs a r s p is = p ∙ good_accepted _ _ _ _ _ _ is

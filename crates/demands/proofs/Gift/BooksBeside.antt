@@ -6,6 +6,7 @@ use Prim.Native.Nat.{ℕ, zero, suc, ◌+◌, ◌≤◌, ◌<◌}
 use native.Mathlib.Omega.{arith}
 use lib.Dec.{ltb}
 use lib.ListN.{get_or, length, length-set, set}
+use Rattle.std.specs.Prelude.{Ok}
 use Rattle.terms.specs.declared.measure.Measure.TheVariants.{OpeningCash}
 use Rattle.terms.specs.declared.refusal.Refusal.{Refusal}
 use Rattle.terms.specs.declared.refusal.Refusal.TheVariants.{OutOfPlace, OutOfRange}
@@ -21,10 +22,9 @@ use Rattle.entries.specs.declared.entry.Underlying as Underlyings·of
 use Rattle.account.specs.Rows.{no_underlying}
 use Rattle.account.specs.Sound.{underlying_allowed}
 use Rattle.account.specs.Steps.{account_after, refusal_of}
-use Rattle.terms.specs.Verdicts.{◌else◌then◌}
+use Rattle.terms.specs.Verdicts.{◌else◌then◌, accept}
 use Rattle.account.specs.declared.account.Account.{Account}
-use Rattle.terms.specs.declared.verdict.Verdict.{Verdict}
-use Rattle.terms.specs.declared.verdict.Verdict.TheVariants.{Accepted}
+use Rattle.terms.specs.Verdicts.{Verdict}
 use Rattle.account.proofs.Held.{Held}
 use Rattle.account.proofs.OpeningSound.{opening_held}
 use Rattle.account.proofs.Passed.{went_on}
@@ -75,7 +75,7 @@ put_beside (x ∷ xs) (y ∷ ys) (suc m) p q roomier long so_far zero = so_far z
 put_beside (x ∷ xs) (y ∷ ys) (suc m) p q roomier long so_far (suc u) = put_beside xs ys m p q roomier (omega arith) (λ i. so_far (suc i)) u
 
 -- a check that passes and a verdict that accepts
-pub both_pass : (passed : Bool) (why : Refusal) (rest : Verdict) → passed ≡ true → rest ≡ Accepted → (passed else why then rest) ≡ Accepted
+pub both_pass : (passed : Bool) (why : Refusal) (rest : Verdict) → passed ≡ true → rest ≡ accept → (passed else why then rest) ≡ accept
 both_pass passed why rest e accepted = rw e accepted
 
 -- a book that waits for rows is not open
@@ -90,7 +90,7 @@ unopened X Entries kind a many placed = absurd (omega (arith, inside kind (1 to 
 
 -- an accepted record goes on to the book after it
 module _ (b : Book) (entry : Entry) (f : Figures) where
-  pub when_accepted : record_verdict b entry f ≡ Accepted → entered b entry f ≡ record { verdict = Accepted; book = book_after b entry f }
+  pub when_accepted : record_verdict b entry f ≡ accept → entered b entry f ≡ record { verdict = accept; book = book_after b entry f }
   unfolding entered
   when_accepted e = ap (λ (v : Verdict). entered_as v b (book_after b entry f)) e
 
@@ -100,7 +100,7 @@ Room X b = b.stage ≡ Entries → RoomFor X b.account
 
 -- what comes of a record in its place: the second's is accepted, and the books stay abreast
 abbrev Onward : ℕ → Book → Book → Figures → Entry → Entry → Type 0
-Onward X b b' f entry entry' = (verdict b' f entry' ≡ Accepted) × Abreast X (book_after b entry f) (book_after b' entry' f)
+Onward X b b' f entry entry' = (verdict b' f entry' ≡ accept) × Abreast X (book_after b entry f) (book_after b' entry' f)
 
 same_kind : {X : ℕ} {entry entry' : Entry} → Alike X entry entry' → code_of (kind_of entry') ≡ code_of (kind_of entry)
 same_kind (higher p q roomier allowed) = refl
@@ -108,13 +108,13 @@ same_kind (more cash) = refl
 same_kind (same entry kind) = refl
 
 module _ (X : ℕ) (b b' : Book) (f : Figures) (so : Abreast X b b') where
-  underlying_onward : (p q : Underlyings·of.Underlying) → Roomier p q → in_place b.stage 16 ≡ true → underlying_verdict b.tables p ≡ Accepted
+  underlying_onward : (p q : Underlyings·of.Underlying) → Roomier p q → in_place b.stage 16 ≡ true → underlying_verdict b.tables p ≡ accept
       → underlying_allowed q ≡ true → Onward X b b' f (Underlying p) (Underlying q)
   unfolding book_after
   underlying_onward p q roomier placed accepted allowed =
       let t = b.tables in
       let t' = b'.tables in
-      let few : ltb t.m 8 ≡ true = second_holds (underlying_allowed p) (ltb t.m 8) (went_on _ OutOfRange Accepted accepted).0 in
+      let few : ltb t.m 8 ≡ true = second_holds (underlying_allowed p) (ltb t.m 8) (went_on _ OutOfRange accept accepted).0 in
       let put = put_beside t.underlyings t'.underlyings t.m p q roomier (so.rows placed) so.tables.rows in (
         rw (allowed, ← so.tables.m, few) refl,
         record {
@@ -132,7 +132,7 @@ module _ (X : ℕ) (b b' : Book) (f : Figures) (so : Abreast X b b') where
         },
       )
 
-  contract_onward : (row : Contracts·of.Contract) → in_place b.stage 17 ≡ true → contract_verdict b.tables row ≡ Accepted → Onward X b b' f (Contract row) (Contract row)
+  contract_onward : (row : Contracts·of.Contract) → in_place b.stage 17 ≡ true → contract_verdict b.tables row ≡ accept → Onward X b b' f (Contract row) (Contract row)
   unfolding book_after
   contract_onward row placed accepted = (
     rw (← so.tables.m, ← so.tables.n) accepted,
@@ -154,7 +154,7 @@ module _ (X : ℕ) (b b' : Book) (f : Figures) (so : Abreast X b b') where
   opening_onward : (cash : ℕ) → cash + X ≤ 1_000_000_000_000_000 → Onward X b b' f (Opening cash) (Opening (cash + X))
   unfolding book_after
   opening_onward cash room = (
-    both_pass _ OutOfRange Accepted (within (cash + X) (range_of OpeningCash) (omega arith) room) refl,
+    both_pass _ OutOfRange accept (within (cash + X) (range_of OpeningCash) (omega arith) room) refl,
     record {
       stage = refl;
       tables = so.tables;
@@ -164,9 +164,9 @@ module _ (X : ℕ) (b b' : Book) (f : Figures) (so : Abreast X b b') where
     },
   )
 
-  entry_onward : (entry : Entry) → code_of (kind_of entry) < 16 → in_place b.stage (code_of (kind_of entry)) ≡ true → refusal_of b.tables b.account entry f ≡ Accepted
+  entry_onward : (entry : Entry) → code_of (kind_of entry) < 16 → in_place b.stage (code_of (kind_of entry)) ≡ true → refusal_of b.tables b.account entry f ≡ accept
       → RoomFor X (account_after b.tables b.account entry f)
-      → (refusal_of b'.tables b'.account entry f ≡ Accepted) × Abreast X (with_entry b entry f) (with_entry b' entry f)
+      → (refusal_of b'.tables b'.account entry f ≡ accept) × Abreast X (with_entry b entry f) (with_entry b' entry f)
   entry_onward entry few placed accepted room =
       let stands = open_stage b.stage (code_of (kind_of entry)) few placed in
       let too = entry_too X b.tables b'.tables b.account entry f so.tables (so.held stands) accepted room in
@@ -181,33 +181,33 @@ module _ (X : ℕ) (b b' : Book) (f : Figures) (so : Abreast X b b') where
         },
       )
 
-  same_onward : (entry : Entry) → code_of (kind_of entry) < 18 → in_place b.stage (code_of (kind_of entry)) ≡ true → verdict b f entry ≡ Accepted
+  same_onward : (entry : Entry) → code_of (kind_of entry) < 18 → in_place b.stage (code_of (kind_of entry)) ≡ true → verdict b f entry ≡ accept
       → Room X (book_after b entry f) → Onward X b b' f entry entry
   unfolding book_after
   same_onward =
-      each_entry (λ entry. code_of (kind_of entry) < 18 → in_place b.stage (code_of (kind_of entry)) ≡ true → verdict b f entry ≡ Accepted → Room X (book_after b entry f) → Onward X b b' f entry entry)
+      each_entry (λ entry. code_of (kind_of entry) < 18 → in_place b.stage (code_of (kind_of entry)) ≡ true → verdict b f entry ≡ accept → Room X (book_after b entry f) → Onward X b b' f entry entry)
       (λ entry few kind placed e room.
       let (here, there) : (book_after b entry f ≡ with_entry b entry f) × (book_after b' entry f ≡ with_entry b' entry f) = (after_entry b f entry few, after_entry b' f entry few) in
       let on = entry_onward entry few placed (sym (entry_verdict b f entry few) ∙ e) (subst (Room X) here room refl) in
       (entry_verdict b' f entry few ∙ on.0, subst (λ (books : Book × Book). Abreast X books.0 books.1) (λ i. (sym here i, sym there i)) on.1))
-      (λ row kind placed e room. underlying_onward row row (same_row row) placed e (first_holds (underlying_allowed row) (ltb b.tables.m 8) (went_on _ OutOfRange Accepted e).0))
+      (λ row kind placed e room. underlying_onward row row (same_row row) placed e (first_holds (underlying_allowed row) (ltb b.tables.m 8) (went_on _ OutOfRange accept e).0))
       (λ row kind placed e room. contract_onward row placed e)
       (λ cash kind placed e room. absurd (omega arith))
 
-  alike_onward : {entry entry' : Entry} → Alike X entry entry' → in_place b.stage (code_of (kind_of entry)) ≡ true → verdict b f entry ≡ Accepted
+  alike_onward : {entry entry' : Entry} → Alike X entry entry' → in_place b.stage (code_of (kind_of entry)) ≡ true → verdict b f entry ≡ accept
       → Room X (book_after b entry f) → Onward X b b' f entry entry'
   unfolding book_after
   alike_onward (higher p q roomier allowed) placed e room = underlying_onward p q roomier placed e allowed
   alike_onward (more cash) placed e room = opening_onward cash (omega (arith, room refl))
   alike_onward (same entry kind) placed e room = same_onward entry kind placed e room
 
-  pub entered_onward : (entry entry' : Entry) → Alike X entry entry' → (entered b entry f).verdict ≡ Accepted → Room X (entered b entry f).book
-      → ((entered b' entry' f).verdict ≡ Accepted) × Abreast X (entered b entry f).book (entered b' entry' f).book
+  pub entered_onward : (entry entry' : Entry) → Alike X entry entry' → (entered b entry f).verdict ≡ accept → Room X (entered b entry f).book
+      → ((entered b' entry' f).verdict ≡ accept) × Abreast X (entered b entry f).book (entered b' entry' f).book
   unfolding record_verdict
   entered_onward entry entry' alike accepted room =
       let first = sym (entered_verdict b entry f) ∙ accepted in
       let passed = went_on (in_place b.stage (code_of (kind_of entry))) OutOfPlace _ first in
       let on = alike_onward alike passed.0 passed.1 (subst (λ (after : Entered). Room X after.book) (when_accepted b entry f first) room) in
       let placed : in_place b'.stage (code_of (kind_of entry')) ≡ true = rw (so.stage, same_kind alike) passed.0 in
-      let second : record_verdict b' entry' f ≡ Accepted = both_pass _ OutOfPlace _ placed on.0 in
+      let second : record_verdict b' entry' f ≡ accept = both_pass _ OutOfPlace _ placed on.0 in
       rw (when_accepted b entry f first, when_accepted b' entry' f second) (refl, on.1)

@@ -8,18 +8,18 @@ use borrow.Author.Tests.{leb-true, le-leb}
 use lib.Dec.{leb}
 use lib.IntN.{ℤ, pos, negsuc, ◌+ℤ◌}
 use lib.Signed.{le_z}
+use Rattle.std.specs.Prelude.{Ok}
 use Rattle.terms.specs.Ranges.{range_of, ◌∈◌}
 use Rattle.terms.specs.declared.measure.Measure.TheVariants.{Money}
 use Rattle.terms.specs.declared.refusal.Refusal.{Refusal}
-use Rattle.terms.specs.Verdicts.{◌else◌then◌}
-use Rattle.terms.specs.declared.verdict.Verdict.{Verdict}
-use Rattle.terms.specs.declared.verdict.Verdict.TheVariants.{Accepted}
+use Rattle.terms.specs.Verdicts.{◌else◌then◌, accept}
+use Rattle.terms.specs.Verdicts.{Verdict}
 use Rattle.terms.proofs.Ranges.{within}
 use Rattle.account.proofs.Passed.{went_on}
 
 -- a check that is passed too, before a verdict that is accepted too
-pub check_too : (test test' : Bool) (why : Refusal) (rest rest' : Verdict) → (test ≡ true → test' ≡ true) → (rest ≡ Accepted → rest' ≡ Accepted)
-    → (test else why then rest) ≡ Accepted → (test' else why then rest') ≡ Accepted
+pub check_too : (test test' : Bool) (why : Refusal) (rest rest' : Verdict) → (test ≡ true → test' ≡ true) → (rest ≡ accept → rest' ≡ accept)
+    → (test else why then rest) ≡ accept → (test' else why then rest') ≡ accept
 check_too test test' why rest rest' passes accepts e =
     let first = went_on test why rest e in
     rw (passes first.0) (accepts first.1)

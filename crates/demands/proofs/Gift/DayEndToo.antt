@@ -7,6 +7,8 @@ use native.Mathlib.Decide.{dec_lt}
 use native.Mathlib.Omega.{arith}
 use lib.Dec.{ltb}
 use lib.ListN.{get_or, get_or-eq_default}
+use Rattle.std.specs.Prelude.{Ok}
+use Rattle.terms.specs.Verdicts.{accept}
 use Rattle.rules.specs.Count.{for_count}
 use Rattle.entries.specs.declared.entry.Entry.TheVariants.{DayEnd}
 use Rattle.entries.specs.declared.entry.Figures.{Figures}
@@ -18,7 +20,6 @@ use Rattle.account.specs.Rows.{no_underlying, contract, underlying, position}
 use Rattle.account.specs.Steps.{account_after, refusal_of, tables_after}
 use Rattle.account.specs.Totals.{count_in, covered_units, over_orders, reserved_units, total_in}
 use Rattle.account.specs.declared.account.Account.{Account}
-use Rattle.terms.specs.declared.verdict.Verdict.TheVariants.{Accepted}
 use Rattle.account.specs.declared.tables.Tables.{Tables}
 use Rattle.terms.proofs.Listed.{listed_length, listed_at}
 use Rattle.terms.proofs.Sums.{Σ-same}
@@ -66,7 +67,7 @@ module _ (X : ℕ) (t : Tables) (rows : List Underlying) (roomier : RoomierTable
       let each : (u : ℕ) → _ = λ u. closed_roomier (ltb u t.m) (underlying t u) (underlying (relisted t rows) u) (close_of f u) (roomier.rows u) in
       record { contracts = refl; n = refl; m = refl; rows = listed_roomier 8 _ _ each }
 
-  pub day_end_too : refusal_of t a (DayEnd n m) f ≡ Accepted → Too X t (relisted t rows) a (DayEnd n m) f
+  pub day_end_too : refusal_of t a (DayEnd n m) f ≡ accept → Too X t (relisted t rows) a (DayEnd n m) f
   unfolding refusal_of account_after tables_after day_end_verdict figures_installed
   day_end_too e =
       record {

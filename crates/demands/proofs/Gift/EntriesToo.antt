@@ -2,13 +2,14 @@
 use mathlib.Core.Path.{◌≡◌, subst}
 use mathlib.Core.List.{List}
 use Prim.Native.Nat.{ℕ}
+use Rattle.std.specs.Prelude.{Ok}
+use Rattle.terms.specs.Verdicts.{accept}
 use Rattle.entries.specs.declared.entry.Entry.{Entry}
 use Rattle.entries.specs.declared.entry.Entry.TheVariants.{Deposit, Withdraw, Lock, Unlock, Order, Fill, Cancel, DayEnd, Pay, Drop, Underlying, Contract, Opening}
 use Rattle.entries.specs.declared.entry.Figures.{Figures}
 use Rattle.entries.specs.declared.entry.Underlying as Given
 use Rattle.account.specs.Steps.{account_after, refusal_of}
 use Rattle.account.specs.declared.account.Account.{Account}
-use Rattle.terms.specs.declared.verdict.Verdict.TheVariants.{Accepted}
 use Rattle.account.specs.declared.tables.Tables.{Tables}
 use Rattle.account.proofs.Held.{Held}
 use Rattle.account.proofs.Passed.{never}
@@ -22,7 +23,7 @@ use Rattle.demands.proofs.Gift.TransfersToo.{deposit_too, drop_too, pay_too, wit
 
 module _ (X : ℕ) (t : Tables) (rows : List Given.Underlying) (roomier : RoomierTables t (relisted t rows)) (a : Account) (held : Held t a) (f : Figures) where
   -- a set-up record is out of its place and never accepted
-  each_too : (entry : Entry) → refusal_of t a entry f ≡ Accepted → RoomFor X (account_after t a entry f) → Too X t (relisted t rows) a entry f
+  each_too : (entry : Entry) → refusal_of t a entry f ≡ accept → RoomFor X (account_after t a entry f) → Too X t (relisted t rows) a entry f
   unfolding refusal_of
   each_too (Deposit amount) e room = deposit_too X t rows roomier a f amount e room
   each_too (Withdraw amount) e room = withdraw_too X t rows roomier a f amount e
@@ -39,6 +40,6 @@ module _ (X : ℕ) (t : Tables) (rows : List Given.Underlying) (roomier : Roomie
   each_too (Opening cash) e room = absurd (never e)
 
 pub entry_too : (X : ℕ) (t t' : Tables) (a : Account) (entry : Entry) (f : Figures) → RoomierTables t t' → Held t a
-    → refusal_of t a entry f ≡ Accepted → RoomFor X (account_after t a entry f) → Too X t t' a entry f
+    → refusal_of t a entry f ≡ accept → RoomFor X (account_after t a entry f) → Too X t t' a entry f
 entry_too X t t' a entry f roomier held accepted room =
     subst (λ (tables : Tables). Too X t tables a entry f) (roomier_relisted roomier) (each_too X t t'.underlyings (relisted_roomier roomier) a held f entry accepted room)

@@ -5,6 +5,8 @@ use mathlib.Core.List.{List}
 use Prim.Native.Nat.{ℕ, ◌+◌, ◌≤◌}
 use native.Mathlib.Omega.{arith}
 use lib.Dec.{leb, ltb}
+use Rattle.std.specs.Prelude.{Ok}
+use Rattle.terms.specs.Verdicts.{accept}
 use Rattle.terms.specs.Kinds.{moves_of, buys_of}
 use Rattle.terms.specs.Ranges.{range_of, ◌∈◌}
 use Rattle.terms.specs.declared.kind.OrderKind.{OrderKind}
@@ -23,7 +25,6 @@ use Rattle.account.specs.Steps.{account_after, refusal_of, tables_after}
 use Rattle.account.specs.declared.account.Account.{Account}
 use Rattle.account.specs.declared.account.Sheet.{Sheet}
 use Rattle.account.specs.declared.judged.Named.{Named}
-use Rattle.terms.specs.declared.verdict.Verdict.TheVariants.{Accepted}
 use Rattle.account.specs.declared.tables.Tables.{Tables}
 use Rattle.account.proofs.Filled.{fill_passed, fill_reached}
 use Rattle.account.proofs.Held.{Held}
@@ -73,15 +74,15 @@ cash_too CoveredOpen cash sum X pays = refl
 cash_too CoveredClose cash sum X pays = omega (arith, pays refl)
 
 module _ (X : ℕ) (n : Named) (fill : Given.Fill) where
-  fill_accepted : fill_verdict n fill ≡ Accepted → (fill_change n fill).sheet.cash + (fill_change n fill).sheet.premium + X ≤ 1_000_000_000_000_000
-      → fill_verdict (endowed X n) fill ≡ Accepted
+  fill_accepted : fill_verdict n fill ≡ accept → (fill_change n fill).sheet.cash + (fill_change n fill).sheet.premium + X ≤ 1_000_000_000_000_000
+      → fill_verdict (endowed X n) fill ≡ accept
   unfolding fill_verdict fill_change
   fill_accepted e room =
       let s = n.sheet in
       let sum = paid n fill in
       let kind = kind_of n.order in
       let buys = buys_of kind in
-      let ceiling = check_too (buys || (s.cash + s.premium + sum ∈ range_of Money)) _ CeilingPassed Accepted Accepted (λ less. ceiling_too kind s.cash s.premium sum X room) (λ same. same) in
+      let ceiling = check_too (buys || (s.cash + s.premium + sum ∈ range_of Money)) _ CeilingPassed accept accept (λ less. ceiling_too kind s.cash s.premium sum X room) (λ same. same) in
       let bar = check_too (leb fill.quantity n.order.left.0 && price_allowed buys n.order.price fill.price) _ FillBarred _ _ (λ same. same) ceiling in
       let place = check_too (ltb n.place 32) _ NoSuchOrder _ _ (λ same. same) bar in
       check_too ((fill.quantity ∈ range_of Quantity) && (fill.price ∈ range_of Price)) _ OutOfRange _ _ (λ same. same) place e
@@ -101,7 +102,7 @@ module _ (X : ℕ) (t : Tables) (rows : List Underlying) (roomier : RoomierTable
       let same = roomier.rows k.underlying in
       ap₂ (named_with (named t a number) (richer_sheet X a.sheet)) (hold_same (kind_of r) k p q r.price same) (margin_same k p q same)
 
-  pub fill_too : Held t a → (fill : Given.Fill) → refusal_of t a (Fill fill) f ≡ Accepted → RoomFor X (account_after t a (Fill fill) f) → Too X t (relisted t rows) a (Fill fill) f
+  pub fill_too : Held t a → (fill : Given.Fill) → refusal_of t a (Fill fill) f ≡ accept → RoomFor X (account_after t a (Fill fill) f) → Too X t (relisted t rows) a (Fill fill) f
   unfolding refusal_of account_after tables_after applied
   fill_too held fill e room =
       let n = named t a fill.number in
@@ -111,6 +112,6 @@ module _ (X : ℕ) (t : Tables) (rows : List Underlying) (roomier : RoomierTable
         tables = roomier;
       }
 
-  pub cancel_too : (number : ℕ) → refusal_of t a (Cancel number) f ≡ Accepted → Too X t (relisted t rows) a (Cancel number) f
+  pub cancel_too : (number : ℕ) → refusal_of t a (Cancel number) f ≡ accept → Too X t (relisted t rows) a (Cancel number) f
   unfolding refusal_of account_after tables_after applied cancel_verdict cancel_change
   cancel_too number e = record { accepted = rw (named_too number) e; account = rw (named_too number) refl; tables = roomier }

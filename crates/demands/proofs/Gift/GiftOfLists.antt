@@ -2,14 +2,14 @@
 use mathlib.Core.List.{List, [], ◌∷◌}
 use mathlib.Core.Path.{◌≡◌, refl, sym, subst}
 use Prim.Native.Nat.{ℕ}
+use Rattle.std.specs.Prelude.{Ok, Err}
 use Rattle.entries.specs.declared.entry.Entry.{Entry}
 use Rattle.entries.specs.declared.entry.Figures.{Figures}
 use Rattle.account.specs.Opening.{opening}
 use Rattle.account.specs.Steps.{refusal_of, tables_after, account_after, outcome, step, run_by, run}
 use Rattle.account.specs.declared.account.Account.{Account}
 use Rattle.account.specs.declared.judged.Outcome.{Outcome}
-use Rattle.terms.specs.declared.verdict.Verdict.{Verdict}
-use Rattle.terms.specs.declared.verdict.Verdict.TheVariants.{Accepted, Refused}
+use Rattle.terms.specs.Verdicts.{Verdict, accept}
 use Rattle.account.specs.declared.tables.Tables.{Tables}
 use Rattle.account.proofs.Available.{more_cash}
 use Rattle.account.proofs.Held.{Held}
@@ -21,7 +21,7 @@ use Rattle.demands.proofs.Gift.EntriesToo.{entry_too}
 
 -- an outcome beside the first's: the same but for X fen and the limits; what the first holds is still within its cash
 pub record Follows (X : ℕ) (first second : Outcome) : Type 0 where
-  pub accepted : second.verdict ≡ Accepted
+  pub accepted : second.verdict ≡ accept
   pub account : second.account ≡ richer X first.account
   pub tables : RoomierTables first.tables second.tables
   pub held : Held first.tables first.account
@@ -30,18 +30,18 @@ pub record Follows (X : ℕ) (first second : Outcome) : Type 0 where
 abbrev pub Leads : (Tables → Account → Entry → Figures → Outcome) → Type 0
 Leads lead =
     (X : ℕ) (t t' : Tables) (a : Account) (entry : Entry) (f : Figures) → RoomierTables t t' → Held t a
-    → (lead t a entry f).verdict ≡ Accepted → RoomFor X (lead t a entry f).account → Follows X (lead t a entry f) (lead t' (richer X a) entry f)
+    → (lead t a entry f).verdict ≡ accept → RoomFor X (lead t a entry f).account → Follows X (lead t a entry f) (lead t' (richer X a) entry f)
 
 pub richer_more : (X : ℕ) (a : Account) → XMore X a (richer X a)
 richer_more X a = record { positions = refl; orders = refl; waiting = refl; margin = refl; locked = λ u. refl; available = more_cash a.sheet X }
 
 -- an outcome is accepted only where the verdict is, and is then what the entry changes
-outcome_accepted : (v : Verdict) (t t' : Tables) (a a' : Account) → (outcome v t a t' a').verdict ≡ Accepted → v ≡ Accepted
-outcome_accepted Accepted t t' a a' e = refl
-outcome_accepted (Refused why) t t' a a' e = e
+outcome_accepted : (v : Verdict) (t t' : Tables) (a a' : Account) → (outcome v t a t' a').verdict ≡ accept → v ≡ accept
+outcome_accepted (Ok tt) t t' a a' e = refl
+outcome_accepted (Err why) t t' a a' e = e
 
-step_accepted : (t : Tables) (a : Account) (entry : Entry) (f : Figures) → refusal_of t a entry f ≡ Accepted
-    → step t a entry f ≡ outcome Accepted t a (tables_after t entry f) (account_after t a entry f)
+step_accepted : (t : Tables) (a : Account) (entry : Entry) (f : Figures) → refusal_of t a entry f ≡ accept
+    → step t a entry f ≡ outcome accept t a (tables_after t entry f) (account_after t a entry f)
 unfolding step
 step_accepted t a entry f e = rw e
 
@@ -57,7 +57,7 @@ step_leads X t t' a entry f roomier held e room =
 -- from any account on, so that each entry hands on to the rest what it led to
 module _ (lead : Tables → Account → Entry → Figures → Outcome) (leads : Leads lead) (X : ℕ) where
   each_follows : (t t' : Tables) (a : Account) (entries : List (Entry × Figures)) → RoomierTables t t' → Held t a
-      → Each (λ first. first.verdict ≡ Accepted) (run_by lead t a entries)
+      → Each (λ first. first.verdict ≡ accept) (run_by lead t a entries)
       → Each (λ first. RoomFor X first.account) (run_by lead t a entries)
       → EachPair (Likewise X) (run_by lead t a entries) (run_by lead t' (richer X a) entries)
   each_follows t t' a [] roomier held accepted room = tt

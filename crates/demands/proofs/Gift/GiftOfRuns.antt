@@ -6,9 +6,9 @@ use native.Mathlib.Omega.{arith}
 use lib.IntN.{ℤ, pos, ◌+ℤ◌}
 use lib.ListN.{get_or, length, length-map, take}
 use lib.Seq.{take_at}
+use Rattle.std.specs.Prelude.{Ok}
 use Rattle.reading.specs.Reading.{read_at}
-use Rattle.terms.specs.declared.verdict.Verdict.{Verdict}
-use Rattle.terms.specs.declared.verdict.Verdict.TheVariants.{Accepted}
+use Rattle.terms.specs.Verdicts.{Verdict, accept}
 use Rattle.account.specs.declared.tables.Tables.{Tables}
 use Rattle.rows.specs.Given.{list_verdict}
 use Rattle.set_up.specs.Stages.{new_book}
@@ -45,7 +45,7 @@ more_available {X} {b} {b'} so stands =
     ∙ sym (ap (λ (stage : Stage). available_at stage b.account.sheet +ℤ pos X) stands)
 
 held_too : {X n n' : ℕ} {runs runs' : ℕ → Ran} {r r' : Run} {numbers numbers' : List ℕ} {sums sums' : List ℤ} → Held runs n r numbers sums
-    → Held runs' n' r' numbers' sums' → n' ≡ n → r'.verdict ≡ Accepted
+    → Held runs' n' r' numbers' sums' → n' ≡ n → r'.verdict ≡ accept
     → ((k : ℕ) → k ≤ n → InStep X (runs k) (runs' k)) → SecondToo X runs runs' r r' numbers' sums sums'
 held_too {X} {n} {n'} {runs} {runs'} {r} {r'} {numbers} {numbers'} {sums} {sums'} first other places accepted steps =
     let second = subst (λ (n : ℕ). Held runs' n r' numbers' sums') places other in
@@ -85,12 +85,12 @@ told_held runs n v r lent numbers sums is written few available =
 book_held : (κs : _) (a : _) (r : _) (s : _) → run_book.Post κs a r s
     → Held (λ k. book_run k a.0.now) (places_in a.1.0.now a.1.1.0.now) r s.1.0.now s.1.1.0.now
 book_held κs a r s p =
-    told_held _ _ Accepted r a.1.0.now _ _ p.0 p.1.0 (few_answers _ a.0.now 0 new_book) (book_sums κs a r s p)
+    told_held _ _ accept r a.1.0.now _ _ p.0 p.1.0 (few_answers _ a.0.now 0 new_book) (book_sums κs a r s p)
 
 list_judged : (κs : _) (a : _) (r : _) (s : _) → run_list.Post κs a r s → r.verdict ≡ list_verdict a.0 a.1.0
 list_judged κs a r s p = ap (λ (run : Run). run.verdict) p.0
 
-list_held : (κs : _) (a : _) (r : _) (s : _) → run_list.Post κs a r s → r.verdict ≡ Accepted
+list_held : (κs : _) (a : _) (r : _) (s : _) → run_list.Post κs a r s → r.verdict ≡ accept
     → Held (λ k. list_run a.0 a.1.0 k a.1.1.0.now) (places_in a.1.1.1.0.now a.1.1.1.1.0.now) r s.1.1.1.0.now s.1.1.1.1.0.now
 list_held κs a r s p accepted =
     told_held _ _ (list_verdict a.0 a.1.0) r a.1.1.1.0.now _ _ p.0 p.1.0 (list_few a.0 a.1.0 a.1.1.0.now (sym (list_judged κs a r s p) ∙ accepted) _)
@@ -130,8 +130,8 @@ pub list_gift : (X : ℕ) (κs κs' : _) (a a' : _) (r r' : _) (s s' : _) → ru
 list_gift X κs κs' a a' r r' s s' first second beside bytes places accepts =
     let held = list_held κs a r s first accepts.verdict in
     let so = held_accepts held accepts in
-    let accepted : list_verdict a.0 a.1.0 ≡ Accepted = sym (list_judged κs a r s first) ∙ accepts.verdict in
-    let too : r'.verdict ≡ Accepted = list_judged κs' a' r' s' second ∙ list_accepted X _ a.0 a'.0 a.1.0 a'.1.0 a.1.1.0.now a'.1.1.0.now beside accepted so.1 in
+    let accepted : list_verdict a.0 a.1.0 ≡ accept = sym (list_judged κs a r s first) ∙ accepts.verdict in
+    let too : r'.verdict ≡ accept = list_judged κs' a' r' s' second ∙ list_accepted X _ a.0 a'.0 a.1.0 a'.1.0 a.1.1.0.now a'.1.1.0.now beside accepted so.1 in
     held_too held (list_held κs' a' r' s' second too) places too
     (list_steps X _ a.0 a'.0 a.1.0 a'.1.0 a.1.1.0.now a'.1.1.0.now beside accepted so.1 bytes so.0)
 

@@ -6,6 +6,7 @@ use Prim.Native.Nat.{ℕ, ◌+◌, ◌≤◌, ◌<◌}
 use native.Mathlib.Omega.{arith}
 use lib.Dec.{leb, ltb}
 use lib.ListN.{length}
+use Rattle.std.specs.Prelude.{Ok}
 use Rattle.terms.specs.Ranges.{◌to◌, range_of}
 use Rattle.terms.specs.declared.measure.Measure.TheVariants.{OpeningCash}
 use Rattle.terms.specs.declared.refusal.Refusal.TheVariants.{OutOfPlace, OutOfRange}
@@ -21,8 +22,7 @@ use Rattle.terms.specs.Listed.{every}
 use Rattle.account.specs.Opening.{opening}
 use Rattle.account.specs.Rows.{underlying}
 use Rattle.account.specs.Sound.{underlying_allowed}
-use Rattle.terms.specs.declared.verdict.Verdict.{Verdict}
-use Rattle.terms.specs.declared.verdict.Verdict.TheVariants.{Accepted}
+use Rattle.terms.specs.Verdicts.{Verdict, accept}
 use Rattle.account.specs.declared.tables.Tables.{Tables}
 use Rattle.account.proofs.Bounds.{four}
 use Rattle.terms.proofs.Listed.{all_pass}
@@ -44,20 +44,20 @@ use Rattle.demands.proofs.Gift.RunsBeside.{AllAccepted, InStep, ReadsOn, both_so
 -- the first's tables with other rows of underlyings, each of them allowed
 relisted_too : (t : Tables) (rows : List Underlyings·of.Underlying) (cash cash' : ℕ) → ((u : ℕ) → u < t.m → underlying_allowed (underlying (relisted t rows) u) ≡ true)
     → cash' ≤ 1_000_000_000_000_000
-    → list_verdict t cash ≡ Accepted → list_verdict (relisted t rows) cash' ≡ Accepted
+    → list_verdict t cash ≡ accept → list_verdict (relisted t rows) cash' ≡ accept
 unfolding list_verdict
 relisted_too t rows cash cash' allowed room accepted =
     let some = went_on (ltb 0 t.n) OutOfPlace _ accepted in
-    let both = (went_on _ OutOfRange Accepted some.1).0 in
+    let both = (went_on _ OutOfRange accept some.1).0 in
     let known = four (leb t.m 8) (leb t.n 64) (every t.m _) (every t.n _) (first_holds (tables_allowed t) _ both) in
     let tables : tables_allowed (relisted t rows) ≡ true = both_hold _ _ (both_hold _ _ (both_hold _ _ known.0 known.1) (all_pass t.m _ allowed)) known.3 in
-    both_pass _ OutOfPlace _ some.0 (both_pass _ OutOfRange Accepted (both_hold _ _ tables (within cash' (range_of OpeningCash) (omega arith) room)) refl)
+    both_pass _ OutOfPlace _ some.0 (both_pass _ OutOfRange accept (both_hold _ _ tables (within cash' (range_of OpeningCash) (omega arith) room)) refl)
 
-given_too : (X : ℕ) (t t' : Tables) (cash cash' : ℕ) → GivenBeside X t t' cash cash' → cash + X ≤ 1_000_000_000_000_000 → list_verdict t cash ≡ Accepted → list_verdict t' cash' ≡ Accepted
+given_too : (X : ℕ) (t t' : Tables) (cash cash' : ℕ) → GivenBeside X t t' cash cash' → cash + X ≤ 1_000_000_000_000_000 → list_verdict t cash ≡ accept → list_verdict t' cash' ≡ accept
 given_too X t t' cash cash' beside room accepted =
     let same = roomier_relisted beside.tables in
     let allowed : (u : ℕ) → u < t.m → underlying_allowed (underlying (relisted t t'.underlyings) u) ≡ true = λ u h. beside.allowed u (omega (arith, h, beside.tables.m)) in
-    subst (λ (tables : Tables). list_verdict tables cash' ≡ Accepted) same (relisted_too t t'.underlyings cash cash' allowed (omega (arith, room, beside.richer)) accepted)
+    subst (λ (tables : Tables). list_verdict tables cash' ≡ accept) same (relisted_too t t'.underlyings cash cash' allowed (omega (arith, room, beside.richer)) accepted)
 
 opened_abreast : (X : ℕ) (t t' : Tables) (cash cash' : ℕ) → GivenBeside X t t' cash cash' → Abreast X (opened t cash) (opened t' cash')
 opened_abreast X t t' cash cash' beside =
@@ -70,7 +70,7 @@ opened_abreast X t t' cash cash' beside =
     }
 
 -- set-up is out of its place in an open book, and an entry leaves it open
-still_open : (b : Book) (f : Figures) (entry : Entry) → b.stage ≡ Entries → (entered b entry f).verdict ≡ Accepted → (code_of (kind_of entry) < 16) × ((entered b entry f).book.stage ≡ Entries)
+still_open : (b : Book) (f : Figures) (entry : Entry) → b.stage ≡ Entries → (entered b entry f).verdict ≡ accept → (code_of (kind_of entry) < 16) × ((entered b entry f).book.stage ≡ Entries)
 unfolding record_verdict
 still_open b f entry stands accepted =
     let kind = code_of (kind_of entry) in
@@ -86,15 +86,15 @@ same_reads X s s' bytes place b entry len stands there e accepted =
     (entry, same entry (omega (arith, on.0)), ap (λ (bytes : List ℕ). read_at bytes place) bytes ∙ found, on.1)
 
 -- a list that is not refused runs on its opened book
-runs_opened : (t : Tables) (cash : ℕ) (s : List ℕ) → list_verdict t cash ≡ Accepted → (k : ℕ) → list_run t cash k s ≡ run_from k s 0 (opened t cash)
+runs_opened : (t : Tables) (cash : ℕ) (s : List ℕ) → list_verdict t cash ≡ accept → (k : ℕ) → list_run t cash k s ≡ run_from k s 0 (opened t cash)
 runs_opened t cash s accepted k = ap (λ (v : Verdict). list_by v t cash k s) accepted
 
-pub list_few : (t : Tables) (cash : ℕ) (s : List ℕ) → list_verdict t cash ≡ Accepted → (n : ℕ) → length (list_run t cash n s).answers ≤ n
+pub list_few : (t : Tables) (cash : ℕ) (s : List ℕ) → list_verdict t cash ≡ accept → (n : ℕ) → length (list_run t cash n s).answers ≤ n
 list_few t cash s accepted n = omega (arith, ap (λ (r : Ran). length r.answers) (runs_opened t cash s accepted n), few_answers n s 0 (opened t cash))
 
-module _ (X n : ℕ) (t t' : Tables) (cash cash' : ℕ) (s s' : List ℕ) (beside : GivenBeside X t t' cash cash') (accepted : list_verdict t cash ≡ Accepted)
+module _ (X n : ℕ) (t t' : Tables) (cash cash' : ℕ) (s s' : List ℕ) (beside : GivenBeside X t t' cash cash') (accepted : list_verdict t cash ≡ accept)
     (room : (i : ℕ) → i ≤ length (list_run t cash n s).answers → Room X (list_run t cash i s).book) where
-  pub list_accepted : list_verdict t' cash' ≡ Accepted
+  pub list_accepted : list_verdict t' cash' ≡ accept
   unfolding run_from
   list_accepted = given_too X t t' cash cash' beside (omega (arith, subst (λ (r : Ran). Room X r.book) (runs_opened t cash s accepted 0) (room 0 (omega arith)) refl)) accepted
 

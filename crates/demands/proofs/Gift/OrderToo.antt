@@ -4,6 +4,8 @@ use mathlib.Core.Bool.{true, not, ◌||◌}
 use mathlib.Core.List.{List, [], ◌∷◌}
 use Prim.Native.Nat.{ℕ}
 use lib.IntN.{ℤ, pos, ◌+ℤ◌}
+use Rattle.std.specs.Prelude.{Ok}
+use Rattle.terms.specs.Verdicts.{accept}
 use Rattle.rules.specs.Count.{for_count}
 use Rattle.entries.specs.declared.entry.Entry.TheVariants.{Order}
 use Rattle.entries.specs.declared.entry.Figures.{Figures}
@@ -18,7 +20,6 @@ use Rattle.account.specs.Totals.{count_in, over_orders, rights_in, total_in, cov
 use Rattle.account.specs.declared.account.Account.{Account}
 use Rattle.account.specs.declared.account.Sheet.{Sheet}
 use Rattle.account.specs.declared.judged.Facts.{Facts}
-use Rattle.terms.specs.declared.verdict.Verdict.TheVariants.{Accepted}
 use Rattle.account.specs.declared.tables.Tables.{Tables}
 use Rattle.account.proofs.Available.{more_cash}
 use Rattle.account.proofs.Passed.{accepted_passed, facts_known}
@@ -72,7 +73,7 @@ passes_too : {X : ℕ} {f f' : Facts} → Easier X f f' → (o : Given.Order) (c
 passes_too {X} {f} {f'} easier o check e = rw easier.others (passes_eased X f'.limits f o easier.limits check e)
 
 walked_too : (f f' : Facts) (o : Given.Order) → ((check : Check) → passes check f o ≡ true → passes check f' o ≡ true) → (checks : List Check)
-    → walked checks f o ≡ Accepted → walked checks f' o ≡ Accepted
+    → walked checks f o ≡ accept → walked checks f' o ≡ accept
 walked_too f f' o too [] e = refl
 walked_too f f' o too (check ∷ rest) e =
     let unmet = not (meets o.kind check) in
@@ -80,7 +81,7 @@ walked_too f f' o too (check ∷ rest) e =
     let second = passes check f' o in
     check_too (unmet || first) (unmet || second) (refusal_for check) (walked rest f o) (walked rest f' o) (unless_too unmet first second (too check)) (walked_too f f' o too rest) e
 
-verdict_too : {X : ℕ} {f f' : Facts} → Easier X f f' → (o : Given.Order) → order_verdict f o ≡ Accepted → order_verdict f' o ≡ Accepted
+verdict_too : {X : ℕ} {f f' : Facts} → Easier X f f' → (o : Given.Order) → order_verdict f o ≡ accept → order_verdict f' o ≡ accept
 unfolding order_verdict
 verdict_too {X} {f} {f'} easier o e = walked_too f f' o (passes_too easier o) columns e
 
@@ -104,7 +105,7 @@ module _ (X : ℕ) (t : Tables) (rows : List Underlying) (roomier : RoomierTable
       let easier : Easier X (facts_in t a o) (facts_in (relisted t rows) (richer X a) o) = record { limits = roomier.rows (under t o); others = facts_in_lem } in
       rw (facts_known t a o allowed, facts_known (relisted t rows) (richer X a) o allowed) easier
 
-  pub order_too : refusal_of t a (Order o) f ≡ Accepted → Too X t (relisted t rows) a (Order o) f
+  pub order_too : refusal_of t a (Order o) f ≡ accept → Too X t (relisted t rows) a (Order o) f
   unfolding refusal_of account_after tables_after
   order_too e =
       let easier = facts_easier (accepted_passed t a o e).allowed in

@@ -3,6 +3,8 @@ use mathlib.Core.Path.{◌≡◌, refl}
 use mathlib.Core.List.{List}
 use Prim.Native.Nat.{ℕ}
 use native.Mathlib.Omega.{arith}
+use Rattle.std.specs.Prelude.{Ok}
+use Rattle.terms.specs.Verdicts.{accept}
 use Rattle.terms.specs.declared.kind.OrderKind.{OrderKind}
 use Rattle.terms.specs.declared.kind.OrderKind.TheVariants.{BuyOpen, SellClose, SellOpen, BuyClose, CoveredOpen, CoveredClose}
 use Rattle.entries.specs.declared.entry.Contract.{Contract}
@@ -13,13 +15,12 @@ use Rattle.account.specs.DayEnd.{with_sheet}
 use Rattle.account.specs.Money.{margin_by, hold_by}
 use Rattle.account.specs.Steps.{account_after, refusal_of, tables_after}
 use Rattle.account.specs.declared.account.Account.{Account}
-use Rattle.terms.specs.declared.verdict.Verdict.TheVariants.{Accepted}
 use Rattle.account.specs.declared.tables.Tables.{Tables}
 use Rattle.demands.specs.Gift.{Roomier, RoomierTables, richer}
 
 -- an entry on the richer account and the roomier tables: accepted, and what it leads to stands in the same relation
 pub record Too (X : ℕ) (t t' : Tables) (a : Account) (entry : Entry) (f : Figures) : Type 0 where
-  pub accepted : refusal_of t' (richer X a) entry f ≡ Accepted
+  pub accepted : refusal_of t' (richer X a) entry f ≡ accept
   pub account : account_after t' (richer X a) entry f ≡ richer X (account_after t a entry f)
   pub tables : RoomierTables (tables_after t entry f) (tables_after t' entry f)
 

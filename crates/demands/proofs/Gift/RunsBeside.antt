@@ -5,14 +5,14 @@ use Prim.Native.Nat.{ℕ, zero, suc, ◌+◌, ◌≤◌, ◌<◌}
 use native.Mathlib.Decide.{dec_lt}
 use native.Mathlib.Omega.{arith}
 use lib.ListN.{length}
+use Rattle.std.specs.Prelude.{Ok, Err}
 use Rattle.terms.proofs.Refusals.{some_number}
 use Rattle.entries.specs.declared.entry.Entry.{Entry}
 use Rattle.reading.specs.Reading.{read_at}
 use Rattle.reading.specs.declared.Answer.{Answer}
 use Rattle.reading.specs.declared.Answer.TheVariants as Answer·of
-use Rattle.terms.specs.Verdicts.{number_in}
-use Rattle.terms.specs.declared.verdict.Verdict.{Verdict}
-use Rattle.terms.specs.declared.verdict.Verdict.TheVariants.{Accepted, Refused}
+use Rattle.terms.specs.Verdicts.{number_in, accept}
+use Rattle.terms.specs.Verdicts.{Verdict}
 use Rattle.set_up.specs.Stages.{Entered, entered}
 use Rattle.set_up.specs.declared.stages.Book.{Book}
 use Rattle.desk.specs.Runs.{Ran, ended, run_from}
@@ -23,9 +23,9 @@ use Rattle.demands.proofs.Answers.RunsTold.{led, read_goes_on, read_so, unread_e
 use Rattle.demands.proofs.Gift.BooksBeside.{Abreast, Room, entered_onward}
 
 -- no refusal has the number 0
-accepted_number : (v : Verdict) → number_in v ≡ 0 → v ≡ Accepted
-accepted_number Accepted e = refl
-accepted_number (Refused why) e = absurd (omega (arith, some_number why, e))
+accepted_number : (v : Verdict) → number_in v ≡ 0 → v ≡ accept
+accepted_number (Ok tt) e = refl
+accepted_number (Err why) e = absurd (omega (arith, some_number why, e))
 
 -- the numbers of the answers are all 0
 abbrev pub AllAccepted : Ran → Type 0
@@ -50,11 +50,11 @@ at_once abreast = record { answered = refl; place = refl; all = tt; abreast = ab
 abbrev pub ReadsOn : ℕ → List ℕ → List ℕ → (ℕ → Book → Type 0) → Type 0
 ReadsOn X s s' Stands =
     (place : ℕ) (b : Book) (entry : Entry) (len : ℕ) → let f = (read_at s place).figures in
-    Stands place b → place < length s → (read_at s place).answer ≡ Answer·of.Found entry len → (entered b entry f).verdict ≡ Accepted
+    Stands place b → place < length s → (read_at s place).answer ≡ Answer·of.Found entry len → (entered b entry f).verdict ≡ accept
     → (entry' : Entry) × Alike X entry entry' × (read_at s' place ≡ record { answer = Answer·of.Found entry' len; figures = f }) × Stands (place + len) (entered b entry f).book
 
 -- one answer more, the second's 0
-led_on : {X : ℕ} {rest rest' : Ran} (after after' : Entered) → after'.verdict ≡ Accepted → InStep X rest rest' → InStep X (led after rest) (led after' rest')
+led_on : {X : ℕ} {rest rest' : Ran} (after after' : Entered) → after'.verdict ≡ accept → InStep X rest rest' → InStep X (led after rest) (led after' rest')
 led_on after after' accepted so = record { answered = ap suc so.answered; place = so.place; all = (ap number_in accepted, so.all); abreast = so.abreast }
 
 module _ (X : ℕ) (s s' : List ℕ) (size : length s' ≡ length s) (Stands : ℕ → Book → Type 0) (reads : ReadsOn X s s' Stands) where

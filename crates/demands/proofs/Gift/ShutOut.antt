@@ -6,6 +6,7 @@ use native.Mathlib.Nat.{add_assoc}
 use native.Mathlib.Omega.{arith}
 use lib.IntN.{ℤ, pos}
 use lib.ListN.{length, drop, drop_of_length-le}
+use Rattle.std.specs.Prelude.{Ok, Err}
 use Rattle.terms.specs.declared.refusal.Refusal.{Refusal}
 use Rattle.rules.specs.Count.{for_count}
 use Rattle.rules.specs.Premium.{premium_of}
@@ -25,11 +26,10 @@ use Rattle.account.specs.Steps.{account_after, refusal_of, run, step, tables_aft
 use Rattle.terms.specs.Sums.{lowest, Σ}
 use Rattle.account.specs.Totals.{count_in, over_orders, rights_in, total_in}
 use Rattle.account.specs.Transfers.{deposit_change, deposit_verdict}
-use Rattle.terms.specs.Verdicts.{number_in}
+use Rattle.terms.specs.Verdicts.{number_in, accept}
 use Rattle.account.specs.declared.account.Account.{Account}
 use Rattle.account.specs.declared.judged.Outcome.{Outcome}
-use Rattle.terms.specs.declared.verdict.Verdict.{Verdict}
-use Rattle.terms.specs.declared.verdict.Verdict.TheVariants.{Accepted, Refused}
+use Rattle.terms.specs.Verdicts.{Verdict}
 use Rattle.account.specs.declared.tables.Tables.{Tables}
 use Rattle.account.proofs.Held.{Held}
 use Rattle.account.proofs.OpeningSound.{opening_held}
@@ -57,10 +57,10 @@ always_same_gift v made X cash t t' (e ∷ es) roomier accepted room =
     repeated (record { accepted = accepted.0; account = subst (XMore X (richer cash made)) (richer_twice cash X made) (richer_more X (richer cash made)) }) (e ∷ es)
 
 pub refuses_all_gift : (why : Refusal) → Gift (refuses_all why)
-refuses_all_gift why = always_same_gift (Refused why) (opening 0)
+refuses_all_gift why = always_same_gift (Err why) (opening 0)
 
 pub books_nothing_gift : Gift books_nothing
-books_nothing_gift = always_same_gift Accepted (opening 0)
+books_nothing_gift = always_same_gift accept (opening 0)
 
 pub pretends_gift : Gift pretends
 pretends_gift X cash t t' [] roomier accepted room = tt
@@ -131,10 +131,10 @@ pub always_same_out : (v : Verdict) (made : Account) → ShutOut (always_same v 
 always_same_out v made = out (always_same v made) (λ told. two_sums _ _ told.each_sum)
 
 pub refuses_all_out : (why : Refusal) → ShutOut (refuses_all why)
-refuses_all_out why = always_same_out (Refused why) (opening 0)
+refuses_all_out why = always_same_out (Err why) (opening 0)
 
 pub books_nothing_out : ShutOut books_nothing
-books_nothing_out = always_same_out Accepted (opening 0)
+books_nothing_out = always_same_out accept (opening 0)
 
 pub pretends_out : ShutOut pretends
 pretends_out = out pretends (λ told. two_sums _ _ told.each_sum)

@@ -7,6 +7,8 @@ use native.Mathlib.Omega.{arith}
 use lib.Dec.{eqb}
 use lib.IntN.{pos}
 use lib.Signed.{le_z}
+use Rattle.std.specs.Prelude.{Ok}
+use Rattle.terms.specs.Verdicts.{accept}
 use Rattle.terms.specs.Ranges.{range_of, ◌∈◌}
 use Rattle.terms.specs.declared.measure.Measure.TheVariants.{Money}
 use Rattle.terms.specs.declared.refusal.Refusal.TheVariants.{OutOfRange, CeilingPassed, AvailablePassed, AlreadyWaiting}
@@ -18,7 +20,6 @@ use Rattle.account.specs.Money.{available_of}
 use Rattle.account.specs.Steps.{account_after, refusal_of, tables_after}
 use Rattle.account.specs.Transfers.{amount_allowed, deposit_verdict, deposit_change, withdraw_verdict, withdraw_change, pay_change, drop_change}
 use Rattle.account.specs.declared.account.Account.{Account}
-use Rattle.terms.specs.declared.verdict.Verdict.TheVariants.{Accepted}
 use Rattle.account.specs.declared.tables.Tables.{Tables}
 use Rattle.account.proofs.Available.{more_cash}
 use Rattle.account.proofs.Held.{Held, waiting_paid}
@@ -27,7 +28,7 @@ use Rattle.demands.proofs.Gift.ChecksToo.{check_too, within_more, within_ceiling
 use Rattle.demands.proofs.Gift.Relisted.{Too, with_cash, relisted}
 
 module _ (X : ℕ) (t : Tables) (rows : List Underlying) (roomier : RoomierTables t (relisted t rows)) (a : Account) (f : Figures) (amount : ℕ) where
-  pub deposit_too : refusal_of t a (Deposit amount) f ≡ Accepted → RoomFor X (account_after t a (Deposit amount) f) → Too X t (relisted t rows) a (Deposit amount) f
+  pub deposit_too : refusal_of t a (Deposit amount) f ≡ accept → RoomFor X (account_after t a (Deposit amount) f) → Too X t (relisted t rows) a (Deposit amount) f
   unfolding refusal_of account_after tables_after applied deposit_verdict deposit_change
   deposit_too e room =
       let s = a.sheet in
@@ -40,7 +41,7 @@ module _ (X : ℕ) (t : Tables) (rows : List Underlying) (roomier : RoomierTable
         tables = roomier;
       }
 
-  pub withdraw_too : refusal_of t a (Withdraw amount) f ≡ Accepted → Too X t (relisted t rows) a (Withdraw amount) f
+  pub withdraw_too : refusal_of t a (Withdraw amount) f ≡ accept → Too X t (relisted t rows) a (Withdraw amount) f
   unfolding refusal_of account_after tables_after applied withdraw_verdict withdraw_change
   withdraw_too e =
       let s = a.sheet in
@@ -56,10 +57,10 @@ module _ (X : ℕ) (t : Tables) (rows : List Underlying) (roomier : RoomierTable
       }
 
 module _ (X : ℕ) (t : Tables) (rows : List Underlying) (roomier : RoomierTables t (relisted t rows)) (a : Account) (f : Figures) where
-  pub pay_too : Held t a → refusal_of t a Pay f ≡ Accepted → Too X t (relisted t rows) a Pay f
+  pub pay_too : Held t a → refusal_of t a Pay f ≡ accept → Too X t (relisted t rows) a Pay f
   unfolding refusal_of account_after tables_after applied pay_change
   pay_too held e = record { accepted = e; account = ap (with_cash (account_after t a Pay f)) (omega (arith, waiting_paid held)); tables = roomier }
 
-  pub drop_too : refusal_of t a Drop f ≡ Accepted → Too X t (relisted t rows) a Drop f
+  pub drop_too : refusal_of t a Drop f ≡ accept → Too X t (relisted t rows) a Drop f
   unfolding refusal_of account_after tables_after applied drop_change
   drop_too e = record { accepted = e; account = refl; tables = roomier }

@@ -8,6 +8,9 @@ use borrow.Author.Tests.{ltb-false, eqb-true, not-false}
 use lib.Dec.{ltb, eqb}
 use lib.ListN.{length, take, drop, replicate, length-append, length-take, length-drop, length-replicate, take-append-drop}
 use lib.Seq.{length-take-le, take-add, take_at, take_all}
+use Rattle.std.specs.Prelude.{Result, Ok, Err}
+use Rattle.terms.specs.Codes.{not_listed}
+use Rattle.terms.specs.declared.unlisted.Unlisted.{Unlisted}
 use Rattle.terms.specs.Codes.{coded, class_code, classes, right_code, rights, kind_code, kinds}
 use Rattle.terms.specs.declared.refusal.Refusal.{Refusal}
 use Rattle.terms.specs.declared.refusal.Refusal.TheVariants.{CutShort, Misshapen}
@@ -17,13 +20,9 @@ use Rattle.entries.specs.Entries.{kind_of, fields_in, ◌!◌, order_of, underly
 use Rattle.entries.specs.Numbers.{number_at, numbers_at, total}
 use Rattle.entries.specs.Table.{code_of, fields_of, is_day_end, figures_of, length_of, counts_allowed, length_fits, counts_fit, kind_coded, kinds as record_kinds}
 use Rattle.entries.specs.declared.entry.Entry.{Entry}
-use Rattle.entries.specs.declared.entry.EntryCoded.{EntryCoded}
-use Rattle.entries.specs.declared.entry.EntryCoded.TheVariants.{Listed, Unlisted}
 use Rattle.entries.specs.declared.entry.Figures.{Figures}
 use Rattle.entries.specs.declared.kind.Kind.{Kind}
 use Rattle.entries.specs.declared.kind.Kind.TheVariants.{Deposit, Withdraw, Lock, Unlock, Order, Fill, Cancel, DayEnd, Pay, Drop, Underlying, Contract, Opening}
-use Rattle.entries.specs.declared.kind.KindCoded.{KindCoded}
-use Rattle.entries.specs.declared.kind.KindCoded.TheVariants as Kind·answer
 use Rattle.entries.proofs.Runs.{length_numbers}
 use Rattle.entries.proofs.Limits.{counts_inside}
 use Rattle.reading.specs.Reading.{length_at, kind_at, n_at, m_at, fields_at, figures_at, refused, ◌at◌when◌else◌, known, whole_at, counted, of_kind, listed, read_from, read_at}
@@ -35,14 +34,14 @@ use Rattle.demands.specs.Records.{Below, AreBytes, Fit, Typed}
 use Rattle.demands.proofs.Records.ReadBytes.{below_take, below_drop, packed_numbers, numbers_fit}
 
 -- an entry that was read of a code was read of a word that has it
-by_word : {W : Type 0} (code : W → ℕ) (saying : W → EntryCoded) (ws : List W) (n : ℕ) {entry : Entry} → coded code saying Unlisted ws n ≡ Listed entry → (w : W) × (code w ≡ n) × (saying w ≡ Listed entry)
-by_word code saying ws n e = elim (reads code ws n) [ word w c of ↦ (w, c, sym (of _ saying Unlisted) ∙ e) | unlisted of ↦ let never : ◌≡◌ {A = ℕ} 0 1 = cc (of _ saying Unlisted) in absurd (omega arith) ]
+by_word : {W : Type 0} (code : W → ℕ) (saying : W → (Result Entry Unlisted)) (ws : List W) (n : ℕ) {entry : Entry} → coded code saying (Err not_listed) ws n ≡ Ok entry → (w : W) × (code w ≡ n) × (saying w ≡ Ok entry)
+by_word code saying ws n e = elim (reads code ws n) [ word w c of ↦ (w, c, sym (of _ saying (Err not_listed)) ∙ e) | unlisted of ↦ let never : ◌≡◌ {A = ℕ} 0 1 = cc (of _ saying (Err not_listed)) in absurd (omega arith) ]
 
 -- an entry has the kind and the fields that say it
-same : {said entry : Entry} → Listed said ≡ Listed entry → (kind_of entry ≡ kind_of said) × (fields_in entry ≡ fields_in said)
+same : {said entry : Entry} → ◌≡◌ {A = Result Entry Unlisted} (Ok said) (Ok entry) → (kind_of entry ≡ kind_of said) × (fields_in entry ≡ fields_in said)
 same e = (cc, cc)
 
-says : (kind : Kind) (r : List ℕ) (entry : Entry) → entry_of kind (fields_at kind r) ≡ Listed entry → (kind_of entry ≡ kind) × (fields_in entry ≡ fields_at kind r)
+says : (kind : Kind) (r : List ℕ) (entry : Entry) → entry_of kind (fields_at kind r) ≡ Ok entry → (kind_of entry ≡ kind) × (fields_in entry ≡ fields_at kind r)
 says Deposit r entry e = same e
 says Withdraw r entry e = same e
 says Lock r entry e = same e
@@ -58,8 +57,8 @@ says Contract r entry e = let vs = fields_at Contract r in let (right, c, e') = 
 says Opening r entry e = same e
 
 -- a kind that was read of a code has it
-kind_coded_lem : (n : ℕ) (kind : Kind) → kind_coded n ≡ Kind·answer.Listed kind → code_of kind ≡ n
-kind_coded_lem n kind e = elim (reads code_of record_kinds n) [ word v c of ↦ cc (of _ Kind·answer.Listed Kind·answer.Unlisted) | unlisted of ↦ cc (of _ Kind·answer.Listed Kind·answer.Unlisted) ]
+kind_coded_lem : (n : ℕ) (kind : Kind) → kind_coded n ≡ Ok kind → code_of kind ≡ n
+kind_coded_lem n kind e = elim (reads code_of record_kinds n) [ word v c of ↦ cc (of _ Ok (Err not_listed)) | unlisted of ↦ cc (of _ Ok (Err not_listed)) ]
 
 -- numbers that fit one width are below one bound
 alike : (w k : ℕ) (xs : List ℕ) → Fit (replicate k w) xs → Below (256 ^ w) xs
@@ -185,13 +184,13 @@ module _ (place : ℕ) {entry : Entry} {len : ℕ} {f : Figures} where
         let there = passed CutShort (ltb (length r) (length_at r)) e in
         go (entry_of kind (fields_at kind r)) refl (ltb-false (length r) (length_at r) there.0) there.1
       where
-        go : (a : EntryCoded) → entry_of kind (fields_at kind r) ≡ a → length_at r ≤ length r → known place (length_at r) figures a ≡ found entry len f → Whole r kind entry len × (figures ≡ f)
-        go (Listed said) a there e' =
+        go : (a : (Result Entry Unlisted)) → entry_of kind (fields_at kind r) ≡ a → length_at r ≤ length r → known place (length_at r) figures a ≡ found entry len f → Whole r kind entry len × (figures ≡ f)
+        go (Ok said) a there e' =
             let answers : Found said (length_at r) ≡ Found entry len = ap (λ (x : Reading). x.answer) e' in
             let named : length_at r ≡ len = cc in
             let is = says kind r entry (cc) in
             (record { code = code; named = named; enough = omega arith; kind_same = is.0; fields_same = is.1 }, ap (λ (x : Reading). x.figures) e')
-        go Unlisted a there e' = unrefused e'
+        go (Err none) a there e' = unrefused e'
 
     kind_accepted : AreBytes r → (kind : Kind) → code_of kind ≡ number_at 2 r 2 → of_kind place r kind ≡ found entry len f → Accepted r entry len f
     unfolding of_kind counted length_fits
@@ -213,9 +212,9 @@ module _ (place : ℕ) {entry : Entry} {len : ℕ} {f : Figures} where
     unfolding read_from
     accepted lent e = go (kind_at r) refl (passed CutShort (ltb (length r) 4) e).1
       where
-        go : (a : KindCoded) → kind_at r ≡ a → listed place r a ≡ found entry len f → Accepted r entry len f
-        go (Kind·answer.Listed kind) a e' = kind_accepted lent kind (kind_coded_lem _ kind a) e'
-        go Kind·answer.Unlisted a e' = unrefused e'
+        go : (a : (Result Kind Unlisted)) → kind_at r ≡ a → listed place r a ≡ found entry len f → Accepted r entry len f
+        go (Ok kind) a e' = kind_accepted lent kind (kind_coded_lem _ kind a) e'
+        go (Err none) a e' = unrefused e'
 
 module _ (s : List ℕ) (lent : AreBytes s) (place : ℕ) {entry : Entry} {len : ℕ} (e : (read_at s place).answer ≡ Found entry len) where
   facts : Accepted (drop place s) entry len (read_at s place).figures

@@ -8,6 +8,7 @@ use borrow.Author.Tests.{le-ltb, eq-eqb, not-false}
 use lib.Dec.{ltb, eqb, lit<, lit≤}
 use lib.ListN.{length, take, drop, replicate, length-append, replicate-append-replicate}
 use lib.Seq.{drop_at, drop-append_seam, length-take-le}
+use Rattle.std.specs.Prelude.{Ok}
 use Rattle.entries.specs.Entries.{kind_of, fields_in, figures_in, figures_from, no_figures}
 use Rattle.entries.specs.Numbers.{numbers_at, packed, total}
 use Rattle.entries.specs.Table.{code_of, fields_of, is_day_end, figures_of, length_fits, counts_fit, counts_allowed}
@@ -16,7 +17,6 @@ use Rattle.entries.specs.declared.entry.Entry.TheVariants.{DayEnd}
 use Rattle.entries.specs.declared.entry.Figures.{Figures}
 use Rattle.entries.specs.declared.kind.Kind.{Kind}
 use Rattle.entries.specs.declared.kind.Kind.TheVariants as Kind·of
-use Rattle.entries.specs.declared.kind.KindCoded.TheVariants as Kind·answer
 use Rattle.entries.proofs.EachKind.{by_day_end, each_kind, kind_said, said}
 use Rattle.entries.proofs.Limits.{counts_inside}
 use Rattle.entries.proofs.Runs.{total_fours, length_packed}
@@ -65,7 +65,7 @@ module _ (entry : Entry) (place : ℕ) (r : List ℕ) (begins : Begins entry r) 
   unfolding read_from
   answered =
       let uncut : ltb (length r) 4 ≡ false = le-ltb (length r) 4 (omega arith) in
-      let kind : kind_at r ≡ Kind·answer.Listed (kind_of entry) = cc (kind_said (kind_of entry)) in
+      let kind : kind_at r ≡ Ok (kind_of entry) = cc (kind_said (kind_of entry)) in
       simp (uncut, kind)
 
 -- what a day end has for one reason and any other entry for another

@@ -10,4 +10,4 @@ pub run_on-requires : goal.run_on-requires
 run_on-requires c =
     let underlyings : length c.args.tables.underlyings ≡ 8 = search (counted, rules) in
     let contracts : length c.args.tables.contracts ≡ 64 = search (counted, rules) in
-    subst SoundBook (sym c.opened.ensures) (list_sound _ _ underlyings contracts (sym c.list_verdict-verdict.ensures ∙ c.in-Accepted.is))
+    subst SoundBook (sym c.opened.ensures) (list_sound _ _ underlyings contracts (sym c.list_verdict-verdict.ensures ∙ c.in-Ok.is))

@@ -1,23 +1,16 @@
 -- What the slices hold and what is still to be answered are together the whole run; the book in hand is sound.
 use Rattle.std.proofs.Common.{◌-◌, ◌≤◌}
-use Rattle.account.specs.declared.account.Account.{Account}
-use Rattle.account.specs.declared.tables.Tables.{Tables}
 use Rattle.set_up.specs.Sound.{SoundBook}
-use Rattle.set_up.specs.declared.stages.Book.{Book}
-use Rattle.set_up.specs.declared.stages.Stage.{Stage}
 use Rattle.desk.specs.Runs.{places_in, run_from}
 use Rattle.desk.proofs.Turns.{Stands}
 use Rattle.desk.proofs.run_on.Given as goal
-
-abbrev pub book : Stage → Tables → Account → Book
-book stage tables account = record { stage = stage; tables = tables; account = account }
 
 abbrev pub invariant-loop-k : goal.invariant-loop-k
 invariant-loop-k l =
     let places = places_in l.fn.numbers l.fn.sums in
     (l.k ≤ places)
-    × SoundBook (book l.stage l.tables l.account)
-    × Stands (run_from places l.bytes l.fn.place l.fn.book) (run_from (places - l.k) l.bytes l.place (book l.stage l.tables l.account)) l.k l.fn.numbers l.numbers l.fn.sums l.sums
+    × SoundBook l.book
+    × Stands (run_from places l.bytes l.fn.place l.fn.book) (run_from (places - l.k) l.bytes l.place l.book) l.k l.fn.numbers l.numbers l.fn.sums l.sums
 
 abbrev pub decreases-loop-k : goal.decreases-loop-k
 decreases-loop-k l = places_in l.fn.numbers l.fn.sums - l.k

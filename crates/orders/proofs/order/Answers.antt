@@ -2,6 +2,8 @@
 use Rattle.std.proofs.Common.{◌≡◌, ◌+◌, ◌^◌, ◌<◌, sym, ap, subst, arith}
 use mathlib.Core.Path.{◌∙◌}
 use native.Mathlib.Nat.{le_of_lt, mul-le-mul}
+use Rattle.std.specs.Prelude.{Ok}
+use Rattle.terms.specs.Verdicts.{accept}
 use Rattle.entries.specs.declared.entry.Order.{Order}
 use Rattle.rules.specs.Count.{for_count}
 use Rattle.account.specs.Checks.{order_verdict}
@@ -10,14 +12,13 @@ use Rattle.account.specs.Sound.{Sound}
 use Rattle.account.specs.declared.account.Account.{Account}
 use Rattle.account.specs.declared.judged.Facts.{Facts}
 use Rattle.account.specs.declared.tables.Tables.{Tables}
-use Rattle.terms.specs.declared.verdict.Verdict.TheVariants.{Accepted}
 use Rattle.account.proofs.Allowed.{contract_known, underlying_known}
 use Rattle.account.proofs.Bounds.{bought_most, holds_most, one_hold, order_figures}
 use Rattle.account.proofs.Passed.{accepted_passed, facts_known}
 use Rattle.orders.proofs.order.Goals as goal
 
 -- the hold joins holds that 32 orders bound, the quantity a count that the daily limit bounds
-room : (t : Tables) (a : Account) (o : Order) (f : Facts) → f ≡ facts_of t a o → Sound t a → order_verdict f o ≡ Accepted → (f.sheet.holds + f.hold < 2 ^ 64) × (f.holding.bought.0 + o.quantity < 2 ^ 32)
+room : (t : Tables) (a : Account) (o : Order) (f : Facts) → f ≡ facts_of t a o → Sound t a → order_verdict f o ≡ accept → (f.sheet.holds + f.hold < 2 ^ 64) × (f.holding.bought.0 + o.quantity < 2 ^ 32)
 unfolding for_count
 room t a o f gathered sound e =
     let passed = accepted_passed t a o (sym (ap (λ (f : Facts). order_verdict f o) gathered) ∙ e) in
@@ -33,4 +34,4 @@ room t a o f gathered sound e =
 
 pub change-requires : goal.change-requires
 change-requires c =
-    room _ _ _ _ (c.gather-facts.ensures _ _ c.requires.sees) c.requires.sees.sound (sym c.verdict.ensures ∙ c.in-Accepted.is)
+    room _ _ _ _ (c.gather-facts.ensures _ _ c.requires.sees) c.requires.sees.sound (sym c.verdict.ensures ∙ c.in_ok-verdict.was)

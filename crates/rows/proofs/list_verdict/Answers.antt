@@ -1,69 +1,70 @@
 -- `list_verdict` meets its contract: with no contract or too many rows nothing else is tested, and otherwise every row and the cash are.
-use Rattle.std.proofs.Common.{◌≡◌, ℕ, ◌≤◌, refl, sym, ap, arith}
+use Rattle.std.proofs.Common.{◌≡◌, ℕ, ◌<◌, ◌≤◌, length, take, refl, arith}
 use mathlib.Core.Path.{◌∙◌}
-use mathlib.Core.Bool.{Bool, true, false, not, ◌&&◌, ◌||◌}
-use native.Mathlib.Decide.{dec_lt}
+use mathlib.Core.Bool.{Bool, true, false, ◌&&◌}
 use borrow.Author.Tests.{le-leb, le-ltb, lt-leb, lt-ltb}
-use lib.Dec.{leb, ltb}
+use Rattle.std.specs.Prelude.{Err}
+use Rattle.std.specs.List.{list_all}
 use Rattle.terms.specs.Ranges.{range_of, ◌∈◌}
 use Rattle.terms.specs.declared.measure.Measure.TheVariants.{OpeningCash}
 use Rattle.terms.specs.declared.refusal.Refusal.TheVariants.{OutOfPlace, OutOfRange}
 use Rattle.terms.specs.Listed.{every}
-use Rattle.account.specs.Rows.{contract, underlying}
+use Rattle.terms.specs.Verdicts.{◌else◌then◌, accept}
+use Rattle.terms.proofs.Listed.{all_rows}
+use Rattle.account.specs.Rows.{contract, no_contract, no_underlying, underlying}
 use Rattle.account.specs.Sound.{contract_allowed, underlying_allowed}
-use Rattle.terms.specs.Verdicts.{◌else◌then◌}
-use Rattle.terms.specs.declared.verdict.Verdict.{Verdict}
-use Rattle.terms.specs.declared.verdict.Verdict.TheVariants.{Accepted, Refused}
 use Rattle.account.specs.declared.tables.Tables.{Tables}
 use Rattle.rows.specs.Given.{list_verdict}
 use Rattle.rows.proofs.list_verdict.Goals as goal
-
--- at most so many is not more than so many
-at_most : (x most : ℕ) → leb x most ≡ not (ltb most x)
-at_most x most =
-    elim (dec_lt most x) [
-      | yes more ↦ rw (lt-leb x most more, lt-ltb most x more) refl
-      | no few ↦ let few : x ≤ most = omega arith in rw (le-leb x most few, le-ltb most x few) refl
-    ]
-
-neither : (p q : Bool) → (not p && not q) ≡ not (p || q)
-neither true q = refl
-neither false q = refl
-
-counts : (m n : ℕ) → (leb m 8 && leb n 64) ≡ not (ltb 8 m || ltb 64 n)
-counts m n = rw (at_most m 8, at_most n 64) (neither (ltb 8 m) (ltb 64 n))
-
--- the verdict where there is a contract, by whether there are too many rows and by what the rows and the cash are
-abbrev judged : Bool → Bool → Bool → Bool → Verdict
-judged many underlyings contracts cash = not many && underlyings && contracts && cash else OutOfRange then Accepted
+use Rattle.rows.proofs.list_verdict.Goals.{then-tables-gt-UNDERLYINGS-via-then-tables-gt-UNDERLYINGS, then-tables-gt-UNDERLYINGS-via-else-tables-gt-UNDERLYINGS+then-tables-gt-CONTRACTS}
+use Rattle.rows.proofs.list_verdict.Goals.{else-underlyings_allowed-via-then-underlyings_allowed+then-contracts_allowed+else-allows, else-underlyings_allowed-via-then-underlyings_allowed+else-contracts_allowed, else-underlyings_allowed-via-else-underlyings_allowed}
 
 module _ (t : Tables) (cash : ℕ) where
-  no_contract : t.n ≡ 0 → Refused OutOfPlace ≡ list_verdict t cash
+  none_there : t.n ≡ 0 → Err OutOfPlace ≡ list_verdict t cash
   unfolding list_verdict
-  no_contract none = rw (le-ltb 0 t.n (omega arith)) refl
+  none_there none = rw (le-ltb 0 t.n (omega arith)) refl
 
-  by_count : (t.n ≡ 0 → ⊥) → (many : Bool) → (ltb 8 t.m || ltb 64 t.n) ≡ many
-      → judged many (every t.m (λ u. underlying_allowed (underlying t u))) (every t.n (λ c. contract_allowed t.m (contract t c))) (cash ∈ range_of OpeningCash) ≡ list_verdict t cash
-  unfolding list_verdict
-  by_count some many is = rw (lt-ltb 0 t.n (omega (arith, some)), counts t.m t.n, is) refl
+  module _ (some : 0 < t.n) where
+    underlyings_many : 8 < t.m → Err OutOfRange ≡ list_verdict t cash
+    unfolding list_verdict
+    underlyings_many many = rw (lt-ltb 0 t.n some, lt-leb t.m 8 many) refl
 
-pub returns-then-n-eq0 : goal.returns-then-n-eq0
-returns-then-n-eq0 c = no_contract _ _ c.if-n-eq0.true
+    module _ (few : t.m ≤ 8) where
+      contracts_many : 64 < t.n → Err OutOfRange ≡ list_verdict t cash
+      unfolding list_verdict
+      contracts_many many = rw (lt-ltb 0 t.n some, le-leb t.m 8 few, lt-leb t.n 64 many) refl
 
-pub returns-then-m-n : goal.returns-then-m-n
-returns-then-m-n c = by_count _ _ c.if-n-eq0.false true c.if-m-n.true
+      -- the verdict, by whether the underlyings, the contracts and the cash are allowed
+      tested : t.n ≤ 64 → length t.underlyings ≡ 8 → length t.contracts ≡ 64 → (us cs opens : Bool) → us ≡ list_all underlying_allowed (take t.m t.underlyings)
+          → cs ≡ list_all (contract_allowed t.m) (take t.n t.contracts) → opens ≡ (cash ∈ range_of OpeningCash) → ((us && cs) && opens else OutOfRange then accept) ≡ list_verdict t cash
+      unfolding list_verdict
+      tested short size_u size_c us cs opens eu ec eo =
+          let every_u : us ≡ every t.m (λ u. underlying_allowed (underlying t u)) = eu ∙ all_rows underlying_allowed t.underlyings no_underlying t.m (omega arith) in
+          let every_c : cs ≡ every t.n (λ c. contract_allowed t.m (contract t c)) = ec ∙ all_rows (contract_allowed t.m) t.contracts no_contract t.n (omega arith) in
+          (λ i. (every_u i && every_c i) && eo i else OutOfRange then accept) ∙ rw (lt-ltb 0 t.n some, le-leb t.m 8 few, le-leb t.n 64 short) refl
 
--- answer is what the code found of the rows and the cash together
-tested : (t : Tables) (cash : ℕ) (underlyings contracts allowed answer : Bool) → (t.n ≡ 0 → ⊥) → (ltb 8 t.m || ltb 64 t.n) ≡ false
-    → underlyings ≡ every t.m (λ u. underlying_allowed (underlying t u)) → contracts ≡ every t.n (λ c. contract_allowed t.m (contract t c)) → allowed ≡ (cash ∈ range_of OpeningCash)
-    → (underlyings && contracts && allowed) ≡ answer → (answer else OutOfRange then Accepted) ≡ list_verdict t cash
-tested t cash underlyings contracts allowed answer some few us cs opens e =
-    ap (λ (b : Bool). b else OutOfRange then Accepted) (sym e) ∙ (λ i. judged false (us i) (cs i) (opens i)) ∙ by_count t cash some false few
+pub returns-then-tables-eq0 : goal.returns-then-tables-eq0
+returns-then-tables-eq0 c = none_there _ _ c.if-tables-eq0.true
 
-pub returns-then-underlyings_allowed-contracts_allowed : goal.returns-then-underlyings_allowed-contracts_allowed
-returns-then-underlyings_allowed-contracts_allowed c =
-    tested _ _ _ _ _ true c.if-n-eq0.false c.if-m-n.false c.underlyings_allowed.ensures c.contracts_allowed.ensures c.allows.ensures c.if-underlyings_allowed-contracts_allowed.true
+pub returns-then-tables-gt-UNDERLYINGS : goal.returns-then-tables-gt-UNDERLYINGS
+returns-then-tables-gt-UNDERLYINGS c =
+    elim c.then-tables-gt-UNDERLYINGS.branch [
+      | then-tables-gt-UNDERLYINGS-via-then-tables-gt-UNDERLYINGS w ↦ underlyings_many _ _ (omega arith) w.if-tables-gt-UNDERLYINGS.true
+      | then-tables-gt-UNDERLYINGS-via-else-tables-gt-UNDERLYINGS+then-tables-gt-CONTRACTS w ↦
+          contracts_many _ _ (omega arith) w.if-tables-gt-UNDERLYINGS.false w.if-tables-gt-CONTRACTS.true
+    ]
 
-pub returns-else-underlyings_allowed-contracts_allowed : goal.returns-else-underlyings_allowed-contracts_allowed
-returns-else-underlyings_allowed-contracts_allowed c =
-    tested _ _ _ _ _ false c.if-n-eq0.false c.if-m-n.false c.underlyings_allowed.ensures c.contracts_allowed.ensures c.allows.ensures c.if-underlyings_allowed-contracts_allowed.false
+pub returns-then-allows : goal.returns-then-allows
+returns-then-allows c =
+    tested _ _ (omega arith) c.if-tables-gt-UNDERLYINGS.false c.if-tables-gt-CONTRACTS.false (omega arith) (omega arith) true true true c.if-underlyings_allowed.ensures c.if-contracts_allowed.ensures
+    c.if-allows.ensures
+
+pub returns-else-underlyings_allowed : goal.returns-else-underlyings_allowed
+returns-else-underlyings_allowed c =
+    let by = tested c.args.tables c.args.cash (omega arith) c.if-tables-gt-UNDERLYINGS.false c.if-tables-gt-CONTRACTS.false (omega arith) (omega arith) in
+    elim c.else-underlyings_allowed.branch [
+      | else-underlyings_allowed-via-then-underlyings_allowed+then-contracts_allowed+else-allows w ↦
+          by true true false w.if-underlyings_allowed.ensures w.if-contracts_allowed.ensures w.if-allows.ensures
+      | else-underlyings_allowed-via-then-underlyings_allowed+else-contracts_allowed w ↦ by true false _ w.if-underlyings_allowed.ensures w.if-contracts_allowed.ensures refl
+      | else-underlyings_allowed-via-else-underlyings_allowed w ↦ by false _ _ w.if-underlyings_allowed.ensures refl refl
+    ]

@@ -1,5 +1,6 @@
 -- `decide` meets its contract: in each arm the entry's kind is known, and what its crate decides by what the entry sees is what the definition says of that kind.
 use Rattle.std.proofs.Common.{refl, sym, ap, subst}
+use mathlib.Core.Logic.{inl, inr}
 use mathlib.Core.Path.{◌∙◌}
 use Rattle.entries.specs.declared.entry.Entry.{Entry}
 use Rattle.account.specs.Changes.{decided}
@@ -74,14 +75,12 @@ pub returns-in-Drop : goal.returns-in-Drop
 unfolding decision_on refusal_of
 returns-in-Drop c = for_entry c.in-Drop.is _ (λ t a sees. c.drop.ensures ∙ ap (λ (s : Seen). decided (payout_verdict s.waiting) (drop_change s.sheet s.last s.waiting)) (shown sees))
 
+-- a record of set-up is one of three
 pub returns-in-Underlying : goal.returns-in-Underlying
 unfolding decision_on refusal_of
-returns-in-Underlying c = for_entry c.in-Underlying.is _ (λ t a sees. refl)
-
-pub returns-in-Contract : goal.returns-in-Contract
-unfolding decision_on refusal_of
-returns-in-Contract c = for_entry c.in-Contract.is _ (λ t a sees. refl)
-
-pub returns-in-Opening : goal.returns-in-Opening
-unfolding decision_on refusal_of
-returns-in-Opening c = for_entry c.in-Opening.is _ (λ t a sees. refl)
+returns-in-Underlying c =
+    elim c.in-Underlying.is [
+      | inl row ↦ for_entry row.1 _ (λ t a sees. refl)
+      | inr (inl row) ↦ for_entry row.1 _ (λ t a sees. refl)
+      | inr (inr cash) ↦ for_entry cash.1 _ (λ t a sees. refl)
+    ]

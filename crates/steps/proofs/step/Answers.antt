@@ -10,10 +10,10 @@ pub booked-requires : goal.booked-requires
 booked-requires c =
     let args = c.args in
     let sees : Sees args.tables args.account args.entry c.see-seen.result = record { sound = c.requires; is = c.see-seen.ensures } in
-    (c.requires, subst (Rests args.tables args.account args.figures) (sym (c.decide-decision.ensures args.tables args.account sees)) (rests args.tables args.figures args.account c.requires args.entry))
+    (c.requires, subst (Rests args.tables args.account args.figures) (sym (c.decide.ensures args.tables args.account sees)) (rests args.tables args.figures args.account c.requires args.entry))
 
 pub returns : goal.returns
 returns c =
     let args = c.args in
     let sees : Sees args.tables args.account args.entry c.see-seen.result = record { sound = c.requires; is = c.see-seen.ensures } in
-    c.booked.ensures ∙ ap (booked_by args.tables args.account args.figures) (c.decide-decision.ensures args.tables args.account sees) ∙ stepped args.tables args.account args.figures args.entry
+    c.booked.ensures ∙ ap (booked_by args.tables args.account args.figures) (c.decide.ensures args.tables args.account sees) ∙ stepped args.tables args.account args.figures args.entry

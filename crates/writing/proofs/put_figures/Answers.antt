@@ -1,11 +1,10 @@
 -- n settlements and then m closes are n + m numbers one after the other.
-use Rattle.std.proofs.Common.{◌≡◌, sym, ap, ap₂, ◌∙◌, List, ◌++◌, ℕ, ◌+◌, ◌*◌, length, take, replicate, rules}
-use lib.ListN.{length-replicate, replicate-append-replicate}
-use lib.Seq.{length-take-le, sets}
+use Rattle.std.proofs.Common.{◌≡◌, sym, ap, ap₂, ◌∙◌, List, ◌++◌, ℕ, ◌+◌, ◌*◌, length, take, replicate, rules, length-take-le}
+use Rattle.std.proofs.lemmas.List.{length-replicate, replicate-append-replicate}
+use Rattle.std.proofs.lemmas.List.Edits.{sets}
 use Rattle.entries.specs.Numbers.{packed}
 use Rattle.entries.specs.Table.{figures_of}
-use Rattle.entries.proofs.Halves.{sets_append}
-use Rattle.entries.proofs.Runs.{total_fours, packed_append, length_packed}
+use Rattle.entries.proofs.Runs.{total_fours, packed_append, length_packed, sets_append}
 use Rattle.writing.proofs.put_figures.Goals as goal
 
 joined : (l d e xs ys : List ℕ) (n m : ℕ) → length xs ≡ n → length ys ≡ m → d ≡ sets l 8 (packed (replicate (length xs) 4) xs) → e ≡ sets d (8 + 4 * n) (packed (replicate (length ys) 4) ys)
@@ -24,5 +23,5 @@ pub returns : goal.returns
 returns c =
     let settled : length c.args.figures.settlements ≡ 64 = search rules in
     let closed : length c.args.figures.closes ≡ 8 = search rules in
-    joined c.args.buffer.now _ _ (take c.args.n c.args.figures.settlements) (take c.args.m c.args.figures.closes) _ _
+    joined c.args.buffer.now _ _ (take c.args.counts.n c.args.figures.settlements) (take c.args.counts.m c.args.figures.closes) _ _
     (length-take-le _ _ (search rules)) (length-take-le _ _ (search rules)) c.puts4.ensures c.puts4-2.ensures

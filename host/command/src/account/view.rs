@@ -132,7 +132,7 @@ fn underlying(tables: &Tables, kept: Option<&Kept>, u: usize) -> Underlying {
     let row = tables.underlyings[u];
     Underlying {
         number: u as u16,
-        class: word_of(CLASSES, row.class.code()),
+        class: word_of(CLASSES, row.class.into()),
         close: row.close,
         rights: row.rights,
         total: row.total,
@@ -157,7 +157,7 @@ fn contract(tables: &Tables, c: usize) -> Contract {
     let row = tables.contracts[c];
     Contract {
         number: c as u16,
-        right: word_of(RIGHTS, row.right.code()),
+        right: word_of(RIGHTS, row.right.into()),
         underlying: row.underlying,
         strike: row.strike,
         unit: row.unit,
@@ -214,7 +214,7 @@ fn order(tables: &Tables, resting: &Resting) -> Order {
     let on = tables.underlyings[usize::from(row.underlying)];
     Order {
         number: resting.number,
-        kind: word_of(ORDER_KINDS, kind.code()),
+        kind: word_of(ORDER_KINDS, kind.into()),
         contract: contract(tables, c),
         left: resting.left.0,
         price: resting.price,

@@ -92,7 +92,7 @@ fn covered_put(tables: &Tables, entry: Entry) -> Option<String> {
         _ => return None,
     };
     let contract = tables.contracts[..tables.n].get(usize::from(order.contract))?;
-    let kind = word_of(ORDER_KINDS, order.kind.code());
+    let kind = word_of(ORDER_KINDS, order.kind.into());
     match (order.kind.moves(), contract.right) {
         (Side::Covered, Right::Put) => Some(format!(
             "{kind} is for calls, and contract {} is a put",

@@ -3,7 +3,7 @@
 use crate::decimal::counted;
 use crate::records::line::{values, HEAD};
 use crate::records::table::{row, Form, Row, Times, ROWS};
-use native::entries::{counts, Kind, KindCoded};
+use native::entries::{Counts, Kind};
 use native::terms::Measure;
 
 /// The bytes are all that is left where the record is cut short.
@@ -62,13 +62,13 @@ fn kinds() -> String {
 
 fn misshapen(bytes: &[u8]) -> String {
     let (length, code) = (two(bytes, 0), two(bytes, 2));
-    let (kind, row) = match (Kind::coded(code), row(code)) {
-        (KindCoded::Listed(kind), Some(row)) => (kind, row),
+    let (kind, row) = match (Kind::try_from(code), row(code)) {
+        (Ok(kind), Some(row)) => (kind, row),
         _ => return String::new(),
     };
     let own = if kind.is_day_end() {
         let [n, m] = [Measure::Contracts, Measure::Underlyings].map(|measure| measure.range());
-        let length = |n: u64, m: u64| counts::length(n as u16, m as u16);
+        let length = |n: u64, m: u64| counts(n as u16, m as u16).length();
         let (least, most) = (length(n.0, m.0), length(n.1, m.1));
         format!("{least} to {most} in steps of 4")
     } else {
@@ -83,11 +83,15 @@ fn misshapen(bytes: &[u8]) -> String {
     unlisted(row, bytes)
 }
 
+fn counts(n: u16, m: u16) -> Counts {
+    Counts { n, m }
+}
+
 fn uncounted(length: u16, n: u16, m: u16) -> String {
     let [ns, ms] = [Measure::Contracts, Measure::Underlyings].map(|measure| measure.range());
     let (n_most, m_most) = (ns.1, ms.1);
-    if counts::allowed(n, m) {
-        let own = counts::length(n, m);
+    if counts(n, m).allowed() {
+        let own = counts(n, m).length();
         return format!("length {length}, of n {n} and m {m} it is {own}");
     }
     format!(

@@ -1,20 +1,7 @@
--- `largest` meets its contract: one that is not smaller takes the place of the best so far, and past one that is smaller the best stays it.
+-- `largest` meets its contract: after the last account `best` is the first of the largest.
 use Rattle.std.proofs.Common.{arith}
-use Rattle.assignment.proofs.Largest.{not_smaller, smaller}
+use Rattle.assignment.proofs.Largest.{first_best}
 use Rattle.assignment.proofs.shares.largest.Goals as goal
 
-pub loop-at-preserved-then-fractions-best : goal.loop-at-preserved-then-fractions-best
-loop-at-preserved-then-fractions-best c =
-    record {
-      at_within = omega arith;
-      best_within = omega arith;
-      largest_so_far = not_smaller _ _ _ (omega arith) (omega arith) _ c.loop-at.invariant.largest_so_far c.if-fractions-best.true;
-    }
-
-pub loop-at-preserved : goal.loop-at-preserved
-loop-at-preserved c =
-    record {
-      at_within = omega arith;
-      best_within = omega arith;
-      largest_so_far = smaller _ _ _ (omega arith) (omega arith) _ c.loop-at.invariant.largest_so_far c.if-fractions-best.false;
-    }
+pub returns : goal.returns
+returns c = (first_best _ c.loop-i.i _ c.loop-i.invariant (omega arith), omega arith)

@@ -1,5 +1,5 @@
 -- `account_after` meets its contract: margin, the units that cover and what is held are summed over the netted positions, which is all that is kept since no order rests, and put together they are the account of the definition.
-use Rattle.std.proofs.Common.{◌≡◌, ℕ, ◌+◌, ◌≤◌, List, length, map, refl, sym, ap, subst, arith}
+use Rattle.std.proofs.Common.{◌≡◌, ℕ, ◌+◌, ◌≤◌, List, length, map, refl, sym, ap, subst, arith, rules}
 use mathlib.Core.Path.{◌∙◌}
 use lib.ListN.{replicate}
 use Rattle.terms.specs.declared.count.Position.{Position}
@@ -73,11 +73,11 @@ module _ (t : Tables) (a : Account) where
     summed ps e = subst (Summed t) (positions_after ∙ sym e) (positions_summed t (day_ended t a) sound)
 
     module _ (ps : List Position) (worked : Worked) (sheet : Sheet) (positioned : ps ≡ map netted a.positions) (is : worked ≡ worked_to t ps t.n) (joined : sheet ≡ posted a.sheet (DayEnd worked.margin a.waiting)) where
-      put_together : (empty : Resting) → empty ≡ free
-          → record { sheet = sheet; waiting = a.waiting; positions = ps; orders = replicate 32 empty; holdings = worked.holdings; running = worked.running; closing = replicate 64 no_position; free = all_free; last = a.last }
+      put_together : (empty : Resting) (nothing : Position) → empty ≡ free → nothing ≡ no_position
+          → record { sheet = sheet; waiting = a.waiting; positions = ps; orders = replicate 32 empty; holdings = worked.holdings; running = worked.running; closing = replicate 64 nothing; free = all_free; last = a.last }
           ≡ day_ended t a
       unfolding day_ended kept_anew units_released daily_zero premium_joined margin_afresh positions_netted orders_cancelled margin_in margin_to
-      put_together empty none =
+      put_together empty nothing none blank =
           let netted_so : worked ≡ worked_to t (map netted a.positions) t.n = is ∙ ap (λ (ps : List Position). worked_to t ps t.n) positioned in
           λ i.
           record {
@@ -87,16 +87,16 @@ module _ (t : Tables) (a : Account) where
             orders = replicate 32 (none i);
             holdings = (ap (λ (w : Worked). w.holdings) netted_so ∙ sym holdings_after) i;
             running = (ap (λ (w : Worked). w.running) netted_so ∙ sym running_after) i;
-            closing = replicate 64 no_position;
+            closing = replicate 64 (blank i);
             free = all_free;
             last = a.last;
           }
 
-pub work_out-worked-requires : goal.work_out-worked-requires
-work_out-worked-requires c = summed _ _ c.requires _ c.net_all-positions.ensures
+pub work_out-margin-requires : goal.work_out-margin-requires
+work_out-margin-requires c = summed _ _ c.requires _ c.net_all-positions.ensures
 
 pub posted-requires : goal.posted-requires
 posted-requires c = omega (arith, money _ _ c.requires)
 
 pub returns : goal.returns
-returns c = put_together c.args.tables c.args.account c.requires _ _ _ c.net_all-positions.ensures c.work_out-worked.ensures c.posted.ensures _ c.free.ensures
+returns c = put_together c.args.tables c.args.account c.requires _ _ _ c.net_all-positions.ensures c.work_out-margin.ensures c.posted.ensures _ _ c.free.ensures (search rules)

@@ -7,13 +7,14 @@ use borrow.Author.Tests.{lt-ltb}
 use lib.Dec.{leb}
 use mir.Syntax.{w64}
 use mir.Val.{Fits}
+use Rattle.std.specs.Prelude.{Result, Ok, Err}
 use Rattle.terms.specs.Kinds.{buys_of}
 use Rattle.terms.specs.Ranges.{range_of, ◌∈◌}
-use Rattle.terms.specs.Verdicts.{◌else◌then◌}
+use Rattle.terms.specs.Verdicts.{◌else◌then◌, accept}
 use Rattle.terms.specs.declared.kind.OrderKind.{OrderKind}
 use Rattle.terms.specs.declared.measure.Measure.TheVariants.{Money}
+use Rattle.terms.specs.declared.refusal.Refusal.{Refusal}
 use Rattle.terms.specs.declared.refusal.Refusal.TheVariants.{FillBarred, CeilingPassed}
-use Rattle.terms.specs.declared.verdict.Verdict.TheVariants.{Accepted}
 use Rattle.rules.specs.Count.{for_count}
 use Rattle.entries.specs.declared.entry.Fill.{Fill}
 use Rattle.account.specs.Changes.{decided}
@@ -21,7 +22,7 @@ use Rattle.account.specs.Fills.{fill_change, fill_verdict, paid, price_allowed}
 use Rattle.account.specs.Money.{kind_of}
 use Rattle.account.specs.declared.judged.Change.{Change}
 use Rattle.account.specs.declared.judged.Decision.{Decision}
-use Rattle.account.specs.declared.judged.Decision.TheVariants.{Changes, Refused}
+use Rattle.account.specs.declared.judged.Decision.TheVariants.{Changes}
 use Rattle.account.specs.declared.judged.Named.{Named}
 use Rattle.money.specs.Charged.{premium_charged}
 use Rattle.money.proofs.Charged.{premium_charged_lem}
@@ -49,7 +50,7 @@ module _ {f : Named} {fill : Fill} (can : Fillable f fill) where
   tested ordered pays one prices = record { can = can; ordered = ordered; pays = pays; paying = sum_paid one; prices = prices }
 
 module _ {f : Named} {fill : Fill} {kind : OrderKind} {buys priced : Bool} {sum : ℕ} (known : Tested f fill kind buys priced sum) where
-  abbrev decision : Decision
+  abbrev decision : Result Decision Refusal
   decision = decided (fill_verdict f fill) (fill_change f fill)
 
   abbrev within : Bool
@@ -68,27 +69,27 @@ module _ {f : Named} {fill : Fill} {kind : OrderKind} {buys priced : Bool} {sum 
   total_fits : Fits w64 total
   total_fits = record { fits = omega (arith, total_small) }
 
-  verdict : fill_verdict f fill ≡ (within else FillBarred then (buys || (total ∈ range_of Money)) else CeilingPassed then Accepted)
+  verdict : fill_verdict f fill ≡ (within else FillBarred then (buys || (total ∈ range_of Money)) else CeilingPassed then accept)
   unfolding fill_verdict
   verdict =
       let can = known.can in
       rw (can.quantity, can.price, lt-ltb f.place 32 can.place, known.prices, known.pays, known.ordered, known.paying) refl
 
-  barred : within ≡ false → Refused FillBarred ≡ decision
+  barred : within ≡ false → Err FillBarred ≡ decision
   barred fails = rw (verdict, fails) refl
 
   module _ {below : Bool} (bounded : below ≡ (total ∈ range_of Money)) (first : within ≡ true) where
-    over : buys || below ≡ false → Refused CeilingPassed ≡ decision
+    over : buys || below ≡ false → Err CeilingPassed ≡ decision
     over fails = rw (verdict, first, ← bounded, fails) refl
 
     module _ (second : buys || below ≡ true) where
-      accepted : fill_verdict f fill ≡ Accepted
+      accepted : fill_verdict f fill ≡ accept
       accepted = rw (verdict, first, ← bounded, second) refl
 
       exact : Exact f fill kind sum
       exact = rw (known.ordered, known.paying) (known.can.exact accepted)
 
-      changed : {change : Change} → change ≡ fill_change f fill → Changes change ≡ decision
+      changed : {change : Change} → change ≡ fill_change f fill → Ok (Changes change) ≡ decision
       changed made = rw (accepted, made) refl
 
 pub overflow_mul-sum : goal.overflow_mul-sum

@@ -1,8 +1,11 @@
 -- `fill` meets its contract: the first two checks are the definition's, on the fill's values and on what is found, and of that a sound account has what the fill takes off.
+use Rattle.std.proofs.Common.{rules}
 use mathlib.Core.Path.{◌≡◌, refl, sym, ap, subst, ◌∙◌}
 use mathlib.Core.Bool.{Bool, true, false, ◌&&◌}
+use Rattle.std.specs.Prelude.{Option, Some, None, Result, Ok, Err}
 use Rattle.terms.specs.Ranges.{range_of, ◌∈◌}
 use Rattle.terms.specs.declared.measure.Measure.TheVariants.{Price, Quantity}
+use Rattle.terms.specs.declared.refusal.Refusal.{Refusal}
 use Rattle.terms.specs.declared.refusal.Refusal.TheVariants.{OutOfRange, NoSuchOrder}
 use Rattle.terms.proofs.Ranges.{first_holds, second_holds}
 use Rattle.entries.specs.declared.entry.Entry.TheVariants as Entry·of
@@ -13,13 +16,10 @@ use Rattle.account.specs.Fills.{fill_change, fill_verdict, named}
 use Rattle.account.specs.Seen.{SeenOf, Sees, seen_by}
 use Rattle.account.specs.declared.account.Account.{Account}
 use Rattle.account.specs.declared.judged.Decision.{Decision}
-use Rattle.account.specs.declared.judged.Decision.TheVariants.{Refused}
 use Rattle.account.specs.declared.judged.Named.{Named}
 use Rattle.account.specs.declared.judged.Seen.{Seen}
 use Rattle.account.specs.declared.tables.Tables.{Tables}
 use Rattle.resting.specs.Found.{NumberSees, found_by}
-use Rattle.resting.specs.declared.found.Found.{Found}
-use Rattle.resting.specs.declared.found.Found.TheVariants.{At, Nothing}
 use Rattle.resting.proofs.Told as told
 use Rattle.fills.specs.Takes.{Fillable}
 use Rattle.fills.proofs.Behind.{fillable}
@@ -33,27 +33,27 @@ as_cancel sees = record { sound = sees.sound; is = sees.is }
 number_sees : {fill : Fill} {s : Seen} → SeenOf (Entry·of.Fill fill) s → NumberSees s
 number_sees {fill} seen = record { number = fill.number; of = record { tables = seen.tables; account = seen.account; sees = as_cancel seen.sees } }
 
-abbrev decision : Fill → Named → Decision
+abbrev decision : Fill → Named → Result Decision Refusal
 decision fill f = decided (fill_verdict f fill) (fill_change f fill)
 
 -- both values are tested
 module _ (fill : Fill) {counted priced : Bool} (counts : counted ≡ (fill.quantity ∈ range_of Quantity)) (prices : priced ≡ (fill.price ∈ range_of Price)) where
-  out : (f : Named) → counted && priced ≡ false → Refused OutOfRange ≡ decision fill f
+  out : (f : Named) → counted && priced ≡ false → Err OutOfRange ≡ decision fill f
   unfolding fill_verdict
   out f fails = rw (← counts, ← prices, fails) refl
 
-  module _ (passes : counted && priced ≡ true) {t : Tables} {a : Account} {s : Seen} (sees : Sees t a (Entry·of.Fill fill) s) {r : Found} (finds : r ≡ found_by t a fill.number) where
+  module _ (passes : counted && priced ≡ true) {t : Tables} {a : Account} {s : Seen} (sees : Sees t a (Entry·of.Fill fill) s) {r : Option Named} (finds : r ≡ found_by t a fill.number) where
     counted_in : (fill.quantity ∈ range_of Quantity) ≡ true
     counted_in = sym counts ∙ first_holds counted priced passes
 
     priced_in : (fill.price ∈ range_of Price) ≡ true
     priced_in = sym prices ∙ second_holds counted priced passes
 
-    none : r ≡ Nothing → Refused NoSuchOrder ≡ decision fill (named t a fill.number)
+    none : r ≡ None → Err NoSuchOrder ≡ decision fill (named t a fill.number)
     unfolding fill_verdict named
     none e = rw (counted_in, priced_in, told.none t a fill.number finds e) refl
 
-    module _ {f : Named} (found_at : r ≡ At f) where
+    module _ {f : Named} (found_at : r ≡ Some f) where
       is_named : f ≡ named t a fill.number
       is_named = told.is_named t a fill.number finds found_at
 
@@ -66,12 +66,19 @@ returns-then-not-allows c t a sees = out c.args.fill c.allows.ensures c.allows-2
 pub find-requires : goal.find-requires
 find-requires c = number_sees c.requires
 
-pub returns-in_default : goal.returns-in_default
-returns-in_default c t a sees = none c.args.fill c.allows.ensures c.allows-2.ensures c.if-not-allows.false sees (c.find.ensures _ t a (as_cancel sees)) c.in_default.is
+pub returns-in_err-named : goal.returns-in_err-named
+returns-in_err-named c t a sees =
+    let missing : c.find.result ≡ None = search rules in
+    let refused : c.from_residual.result ≡ Err NoSuchOrder = search rules in
+    refused ∙ none c.args.fill c.allows.ensures c.allows-2.ensures c.if-not-allows.false sees (c.find.ensures _ t a (as_cancel sees)) missing
 
 pub decide-requires : goal.decide-requires
-decide-requires c = let sees = c.requires.sees in can c.args.fill c.allows.ensures c.allows-2.ensures c.if-not-allows.false sees (c.find.ensures _ _ _ (as_cancel sees)) c.in-At.is
+decide-requires c =
+    let sees = c.requires.sees in
+    let there : c.find.result ≡ Some c.in_ok-named.named = search rules in
+    can c.args.fill c.allows.ensures c.allows-2.ensures c.if-not-allows.false sees (c.find.ensures _ _ _ (as_cancel sees)) there
 
 pub returns : goal.returns
 returns c t a sees =
-    c.decide.ensures ∙ ap (decision _) (is_named c.args.fill c.allows.ensures c.allows-2.ensures c.if-not-allows.false sees (c.find.ensures _ t a (as_cancel sees)) c.in-At.is)
+    let there : c.find.result ≡ Some c.in_ok-named.named = search rules in
+    c.decide.ensures ∙ ap (decision _) (is_named c.args.fill c.allows.ensures c.allows-2.ensures c.if-not-allows.false sees (c.find.ensures _ t a (as_cancel sees)) there)

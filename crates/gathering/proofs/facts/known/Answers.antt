@@ -16,9 +16,9 @@ pub available-requires : goal.available-requires
 available-requires c = known.money_sound c.requires.of.sees c.requires.allowed
 
 pub overflow_mul-result : goal.overflow_mul-result
-overflow_mul-result c = known.hold_fits c.requires.of.sees c.requires.allowed _ c.hold_one.ensures
+overflow_mul-result c = known.hold_fits c.requires.of.sees c.requires.allowed _ c.hold_one-one.ensures
 
 pub returns : goal.returns
 returns c t a sees allowed =
     known.put_together sees allowed _ _ _ _ _ _ c.count.ensures c.count-2.ensures c.moves-side.ensures c.units.ensures
-    (to_z-of_z w64 c.available.result (record { sfits = c.available.type_inv }) ∙ c.available.ensures) c.hold_one.ensures
+    (to_z-of_z w64 c.available.result (record { sfits = c.available.type_inv }) ∙ c.available.ensures) c.hold_one-one.ensures

@@ -4,4 +4,4 @@ use Rattle.gathering.proofs.seen.see.Goals as goal
 
 pub returns : goal.returns
 returns c =
-    rows_read c.args.tables c.args.account c.args.entry _ _ _ _ _ _ _ c.order_named.ensures c.place_of-place.ensures c.row-i.ensures c.contract_named.ensures c.row-c.ensures c.underlying_named.ensures c.row-u.ensures
+    rows_read c.args.tables.now c.args.account.now c.args.entry _ _ _ _ _ _ _ c.order_named.ensures c.place_of-place.ensures c.row-i.ensures c.contract_named.ensures c.row-c.ensures c.underlying_named.ensures c.row-u.ensures

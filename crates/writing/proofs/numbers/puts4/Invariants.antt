@@ -1,11 +1,8 @@
 -- The first i numbers are put.
-use Rattle.std.proofs.Common.{length, ◌-◌, ◌≡◌, ◌≤◌, take, replicate}
+use Rattle.std.proofs.Common.{◌≡◌, take, replicate}
 use Rattle.std.proofs.lemmas.List.Edits.{sets}
 use Rattle.entries.specs.Numbers.{packed}
 use Rattle.writing.proofs.numbers.puts4.Given as goal
 
 abbrev pub invariant-loop-i : goal.invariant-loop-i
-invariant-loop-i l = (l.i ≤ length l.xs) × (l.buffer ≡ sets l.fn.buffer l.at (packed (replicate l.i 4) (take l.i l.xs)))
-
-abbrev pub decreases-loop-i : goal.decreases-loop-i
-decreases-loop-i l = length l.xs - l.i
+invariant-loop-i l = l.buffer ≡ sets l.fn.buffer l.at (packed (replicate l.i 4) (take l.i l.xs))

@@ -1,6 +1,0 @@
--- What is booked is sound, so its sheet has an available sum.
-use Rattle.account.proofs.Bounds.{sheet_sound}
-use Rattle.edges.proofs.line.Goals as goal
-
-pub show-requires : goal.show-requires
-show-requires c = sheet_sound c.booked-after.ensures

@@ -1,2 +1,0 @@
--- How the bytes before the end of a line are counted on from place to place.
-pub mod Before
