@@ -5,7 +5,7 @@ use Rattle.std.proofs.lemmas.Fmt.{decimal_from_appends, length-decimal-le}
 use borrow.Author.Tests.{lt-ltb, le-ltb}
 use Rattle.book.specs.Lines.{digits_in, decimal, signed, line_of}
 
-decimal_is : (n : ℕ) → n < 2 ^ 64 → decimal n ≡ std·decimal n
+pub decimal_is : (n : ℕ) → n < 2 ^ 64 → decimal n ≡ std·decimal n
 unfolding decimal digits_in
 decimal_is n h =
     decimal_from_appends digits_in (record { one = λ k n few. rw (lt-ltb n 10 few) refl; more = λ k n many. rw (le-ltb n 10 many) refl }) 20 n h

@@ -20,7 +20,7 @@ pub fn decide(seen: Seen, n: u16, m: u16, figures: Figures) -> Result<Decision, 
         return Err(Refusal::OutOfRange);
     }
     if all_allowed(&figures.settlements[..seen.n], Measure::Settlement)
-        && all_allowed(&figures.closes[..seen.m], Measure::Price)
+        & all_allowed(&figures.closes[..seen.m], Measure::Price)
     {
         Ok(Decision::DayEnds)
     } else {

@@ -17,7 +17,7 @@ impl Counts {
         ensures { result ≡ counts_allowed self.n self.m }
     {
         Measure::Contracts.allows(u64::from(self.n))
-            && Measure::Underlyings.allows(u64::from(self.m))
+            & Measure::Underlyings.allows(u64::from(self.m))
     }
 
     // How long the record of a day end with such counts is.
@@ -32,6 +32,6 @@ impl Counts {
     pub fn fit(self, size: u16) -> bool
         ensures { result ≡ counts_fit self.n self.m size }
     {
-        self.allowed() && usize::from(size) == self.length()
+        self.allowed() & (usize::from(size) == self.length())
     }
 }

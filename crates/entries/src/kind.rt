@@ -84,7 +84,7 @@ impl Kind {
         ensures { result ≡ length_fits self length }
     {
         if self.is_day_end() {
-            (16..=296).contains(&length) && length % 4 == 0
+            (16..=296).contains(&length) & (length % 4 == 0)
         } else {
             length == self.length()
         }

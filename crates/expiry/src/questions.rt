@@ -12,12 +12,12 @@ const KEPT: usize = ACCOUNTS + 1;
 // A line of blanks asks nothing, nor does a remark.
 pub fn answer(l: &[u8], line: u64) {
     let mut words = Words(l);
+    if words.remark() {
+        return;
+    }
     let Some(word) = words.next() else {
         return;
     };
-    if word.starts_with(b"#") {
-        return;
-    }
     let answered = match word {
         b"exercise" => exercise_asked(words),
         b"assign" => assign_asked(words),

@@ -6,6 +6,16 @@ ghost use Rattle.std.specs.Iterator.{at_most};
 #[derive(Drop)]
 pub struct Words<'a>(pub &'a [u8]);
 
+impl<'a> Words<'a> {
+    // By the byte behind the blanks alone: a remark's first word may be long, and nobody asks where it ends.
+    pub fn remark(&self) -> bool {
+        self.0
+            .iter()
+            .find(|b| !blank(**b))
+            .is_some_and(|b| *b == b'#')
+    }
+}
+
 impl<'a> Iterator for Words<'a> {
     type Item = &'a [u8];
 

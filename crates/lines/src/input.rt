@@ -32,8 +32,12 @@ fn line_length(s: &[u8]) -> usize
 pub fn each_line<F: FnMut(&[u8])>(s: &[u8], mut visit: F)
     requires { F.IsAlwaysCallable visit }
 {
-    for line in s.split_inclusive(|b| *b == b'\n') {
-        visit(&line[..line_length(line)]);
+    let mut start = 0;
+    // No iterator: `split_inclusive` looks for the ends by itself, and where a line ends is promised of `line_end`.
+    while start < s.len() {
+        let stop = line_end(s, start);
+        visit(&s[start..stop]);
+        start = stop + 1;
     }
 }
 

@@ -24,8 +24,8 @@ pub fn list_verdict(tables: Tables, cash: u64) -> Verdict
         return Err(Refusal::OutOfRange);
     }
     if underlyings_allowed(&tables.underlyings[..tables.m])
-        && contracts_allowed(&tables.contracts[..tables.n], tables.m)
-        && Measure::OpeningCash.allows(cash)
+        & contracts_allowed(&tables.contracts[..tables.n], tables.m)
+        & Measure::OpeningCash.allows(cash)
     {
         Ok(())
     } else {

@@ -21,8 +21,18 @@ impl Book {
         match ruling {
             Err(_) => {}
             Ok(Ruling::Changes(change)) => self.account.apply(change),
-            Ok(Ruling::Renews(renewal)) => *self = renewed(*self, *figures, renewal),
+            Ok(Ruling::Renews(renewal)) => self.renew(figures, renewal),
         }
+    }
+
+    // A function of its own when compiled, too: the compiler sets the arrays of a function to zero where it begins, and a record that makes
+    // no book anew would pay for them.
+    #[inline(never)]
+    fn renew(&mut self, figures: &Figures, renewal: Renewal)
+        requires { SoundBook self.old × RenewsOn self.old figures.now renewal }
+        ensures { self.new ≡ renewed_by self.old figures.now renewal }
+    {
+        *self = renewed(*self, *figures, renewal);
     }
 }
 

@@ -41,7 +41,9 @@ pub fn decide(seen: Seen, entry: Entry, figures: &Figures) -> Result<Decision, R
         Entry::DayEnd { n, m } => day_end::decide(seen, n, m, *figures),
         Entry::Pay => pay(seen.sheet, seen.waiting, seen.last),
         Entry::Drop => drop(seen.sheet, seen.waiting, seen.last),
-        Entry::Underlying(_) | Entry::Contract(_) | Entry::Opening(_) => Err(Refusal::OutOfPlace),
+        Entry::Underlying(_) | Entry::Contract(_) => Err(Refusal::OutOfPlace),
+        // An arm of its own: a wrong edit has to be able to change the opening alone.
+        Entry::Opening(_) => Err(Refusal::OutOfPlace),
     }
 }
 

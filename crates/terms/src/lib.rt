@@ -17,4 +17,4 @@ pub use measure::{ACCOUNTS, CONTRACTS, Measure, PLACES, Range, UNDERLYINGS, unit
 pub use refusal::Refusal;
 pub use right::Right;
 pub use unlisted::Unlisted;
-pub use verdict::{Verdict, number};
+pub use verdict::{Verdict, number, verdict_of};

@@ -75,12 +75,15 @@ pub returns-in-Drop : goal.returns-in-Drop
 unfolding decision_on refusal_of
 returns-in-Drop c = for_entry c.in-Drop.is _ (λ t a sees. c.drop.ensures ∙ ap (λ (s : Seen). decided (payout_verdict s.waiting) (drop_change s.sheet s.last s.waiting)) (shown sees))
 
--- a record of set-up is one of three
+-- a row of the tables is one of two
 pub returns-in-Underlying : goal.returns-in-Underlying
 unfolding decision_on refusal_of
 returns-in-Underlying c =
     elim c.in-Underlying.is [
       | inl row ↦ for_entry row.1 _ (λ t a sees. refl)
-      | inr (inl row) ↦ for_entry row.1 _ (λ t a sees. refl)
-      | inr (inr cash) ↦ for_entry cash.1 _ (λ t a sees. refl)
+      | inr row ↦ for_entry row.1 _ (λ t a sees. refl)
     ]
+
+pub returns-in-Opening : goal.returns-in-Opening
+unfolding decision_on refusal_of
+returns-in-Opening c = for_entry c.in-Opening.is _ (λ t a sees. refl)

@@ -19,15 +19,14 @@ use Rattle.account.specs.declared.account.Account.{Account}
 use Rattle.account.specs.declared.judged.Seen.{Seen}
 use Rattle.account.specs.declared.tables.Tables.{Tables}
 use Rattle.day_end.proofs.figures.decide.Goals as goal
-use Rattle.day_end.proofs.figures.decide.Goals.{else-all_allowed-via-then-all_allowed+else-all_allowed-2, else-all_allowed-via-else-all_allowed}
 
--- the verdict, by whether the settlements and the closes are allowed
+-- the verdict, by whether the settlements and the closes are both allowed
 module _ (f : Figures) (n m : ℕ) (s : Seen) (as_n : n ≡ s.n) (as_m : m ≡ s.m) (contracts : length f.settlements ≡ 64) (underlyings : length f.closes ≡ 8) where
-  tested : (settlements closes : Bool) → settlements ≡ list_all (λ price. price ∈ range_of Settlement) (take s.n f.settlements)
-      → closes ≡ list_all (λ price. price ∈ range_of Price) (take s.m f.closes)
-      → (t : Tables) (a : Account) → Sees t a (DayEnd n m) s → (settlements && closes else OutOfRange then accept) ≡ day_end_verdict t n m f
+  tested : (settlements closes both : Bool) → settlements ≡ list_all (λ price. price ∈ range_of Settlement) (take s.n f.settlements)
+      → closes ≡ list_all (λ price. price ∈ range_of Price) (take s.m f.closes) → (settlements && closes) ≡ both
+      → (t : Tables) (a : Account) → Sees t a (DayEnd n m) s → ending (both else OutOfRange then accept) ≡ ending (day_end_verdict t n m f)
   unfolding day_end_verdict seen_by
-  tested settlements closes es ec t a sees =
+  tested settlements closes both es ec is t a sees =
       let rows_n : s.n ≡ t.n = ap (λ (s : Seen). s.n) sees.is in
       let rows_m : s.m ≡ t.m = ap (λ (s : Seen). s.m) sees.is in
       let ss : settlements ≡ every n (λ c. settlement_of f c ∈ range_of Settlement) =
@@ -38,16 +37,13 @@ module _ (f : Figures) (n m : ℕ) (s : Seen) (as_n : n ≡ s.n) (as_m : m ≡ s
       ec
       ∙ all_rows (λ price. price ∈ range_of Price) f.closes 0 s.m (omega (arith, sees.sound.tables.few_underlyings))
       ∙ ap (λ (k : ℕ). every k (λ u. close_of f u ∈ range_of Price)) (sym as_m) in
-      (λ i. ss i && cs i else OutOfRange then accept) ∙ rw (eq-eqb n t.n (as_n ∙ rows_n), eq-eqb m t.m (as_m ∙ rows_m)) refl
+      ap (λ (b : Bool). ending (b else OutOfRange then accept)) (sym is)
+      ∙ ap ending ((λ i. ss i && cs i else OutOfRange then accept) ∙ rw (eq-eqb n t.n (as_n ∙ rows_n), eq-eqb m t.m (as_m ∙ rows_m)) refl)
 
-pub returns-then-all_allowed-2 : goal.returns-then-all_allowed-2
-returns-then-all_allowed-2 c t a sees =
-    ap ending (tested c.args.figures _ _ c.args.seen c.if-n-seen.false c.if-m-seen.false (omega arith) (omega arith) true true c.if-all_allowed.ensures c.if-all_allowed-2.ensures t a sees)
+pub returns-then-all_allowed : goal.returns-then-all_allowed
+returns-then-all_allowed c =
+    tested c.args.figures _ _ c.args.seen c.if-n-seen.false c.if-m-seen.false (omega arith) (omega arith) _ _ true c.all_allowed.ensures c.all_allowed-2.ensures c.if-all_allowed.true
 
 pub returns-else-all_allowed : goal.returns-else-all_allowed
-returns-else-all_allowed c t a sees =
-    let by = tested c.args.figures _ _ c.args.seen c.if-n-seen.false c.if-m-seen.false (omega arith) (omega arith) in
-    elim c.else-all_allowed.branch [
-      | else-all_allowed-via-then-all_allowed+else-all_allowed-2 w ↦ ap ending (by true false w.if-all_allowed.ensures w.if-all_allowed-2.ensures t a sees)
-      | else-all_allowed-via-else-all_allowed w ↦ ap ending (by false _ w.if-all_allowed.ensures refl t a sees)
-    ]
+returns-else-all_allowed c =
+    tested c.args.figures _ _ c.args.seen c.if-n-seen.false c.if-m-seen.false (omega arith) (omega arith) _ _ false c.all_allowed.ensures c.all_allowed-2.ensures c.if-all_allowed.false
