@@ -1,6 +1,6 @@
 // The two questions, as lines ask them, and their answers.
 use crate::numbers::number;
-use crate::words::Words;
+use crate::words::{Words, behind_blanks};
 use arrayvec::ArrayVec;
 use lines::output;
 use lines::output::{STANDARD_OUTPUT, text};
@@ -11,10 +11,12 @@ const KEPT: usize = ACCOUNTS + 1;
 
 // A line of blanks asks nothing, nor does a remark.
 pub fn answer(l: &[u8], line: u64) {
-    let mut words = Words(l);
-    if words.remark() {
+    // A remark is told by its first byte: its first word may be long, and nobody asks where it ends.
+    let l = behind_blanks(l);
+    if matches!(l.first(), None | Some(b'#')) {
         return;
     }
+    let mut words = Words(l);
     let Some(word) = words.next() else {
         return;
     };
