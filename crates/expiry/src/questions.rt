@@ -13,7 +13,7 @@ const KEPT: usize = ACCOUNTS + 1;
 pub fn answer(l: &[u8], line: u64) {
     // A remark is told by its first byte: its first word may be long, and nobody asks where it ends.
     let l = behind_blanks(l);
-    if matches!(l.first(), None | Some(b'#')) {
+    if l.starts_with(b"#") {
         return;
     }
     let mut words = Words(l);
