@@ -1,6 +1,8 @@
 // The words of a line: what stands between blanks.
-ghost use Rattle.std.specs.Prelude.{◌<◌, ◌≤◌, length, OnSome};
+ghost use Rattle.std.specs.Prelude.{◌≡◌, ◌<◌, ◌≤◌, length, OnSome};
 ghost use Rattle.std.specs.Iterator.{at_most};
+ghost use Rattle.std.specs.List.{take_while};
+ghost use Rattle.expiry.specs.Blanks.{blank, behind_blanks};
 
 // What is left of the line.
 #[derive(Drop)]
@@ -25,13 +27,20 @@ impl<'a> Iterator for Words<'a> {
 
 // A line, or what is left of one, without the blanks that it begins with.
 pub fn behind_blanks(line: &[u8]) -> &[u8]
-    ensures { length result.now ≤ length line.now }
+    ensures { (result.now ≡ behind_blanks line.now) × (length result.now ≤ length line.now) }
 {
-    let start = line.iter().take_while(|b| blank(**b)).count();
-    &line[start..]
+    &line[blanks(line)..]
 }
 
-// Lines of other systems end with CR and LF.
-fn blank(b: u8) -> bool {
+// How many blanks a line begins with.
+fn blanks(line: &[u8]) -> usize
+    ensures { result ≡ length (take_while blank line.now) }
+{
+    line.iter().take_while(|b| blank(**b)).count()
+}
+
+fn blank(b: u8) -> bool
+    ensures { result ≡ blank b }
+{
     matches!(b, b' ' | b'\t' | b'\r')
 }

@@ -1,0 +1,2 @@
+-- What stands between the words of a line.
+pub mod Blanks
